@@ -1,0 +1,80 @@
+-- A loop that asks each element in turn: what is asked of the list from i on is asked of the element at i, then from i + 1 on.
+use mathlib.Core.Path.{_≡_, refl, sym, ap, _∙_}
+use mathlib.Core.Bool.{Bool, true, false, _&&_}
+use mathlib.Core.List.{List, [], _∷_, _++_}
+use Prim.Native.Nat.{ℕ, zero, suc, _+_, _<_, _≤_}
+use native.Mathlib.Omega.{arith}
+use native.Mathlib.Numerals.{add-one}
+use lib.Dec.{eqb, leb, lit<}
+use lib.ListN.{length, getD, take, drop, drop-of-length-le, length-drop}
+use lib.Seq.{drop-cons, drop-drop, take-add, getD-drop, length-take-le}
+use borrow.Author.Tests.{eqb-true, eq-eqb}
+use Rattle.laws.specs.Bytes.{Bytes, part, same}
+use Rattle.laws.specs.Lists.{every, within}
+use Rattle.laws.proofs.Conditions.{and-first, and-second, false-true}
+
+-- the list from i on is the element at i and the list from i + 1 on
+pub from : {A : Type 0} (l : List A) (i : ℕ) (d : A) → i < length l → drop i l ≡ getD l i d ∷ drop (i + 1) l
+from l i d h = rw (add-one, drop-cons l i d)
+
+-- behind the end there is nothing
+pub behind : {A : Type 0} (l : List A) (i : ℕ) → length l ≤ i → drop i l ≡ []
+behind l i h = drop-of-length-le l h
+
+pub every-from : {A : Type 0} (f : A → Bool) (l : List A) (i : ℕ) (d : A) → i < length l → every f (drop i l) ≡ (f (getD l i d) && every f (drop (i + 1) l))
+every-from f l i d h = ap (every f) (from l i d h)
+
+pub every-behind : {A : Type 0} (f : A → Bool) (l : List A) (i : ℕ) → length l ≤ i → every f (drop i l) ≡ true
+every-behind f l i h = ap (every f) (behind l i h)
+
+pub within-from : (l bs : List ℕ) (i : ℕ) → i < length l → i < length bs → within (drop i l) (drop i bs) ≡ (leb (getD l i 0) (getD bs i 0) && within (drop (i + 1) l) (drop (i + 1) bs))
+within-from l bs i h k = rw (from l i 0 h, from bs i 0 k)
+
+pub same-from : (l m : List ℕ) (i : ℕ) → i < length l → i < length m → same (drop i l) (drop i m) ≡ (eqb (getD l i 0) (getD m i 0) && same (drop (i + 1) l) (drop (i + 1) m))
+same-from l m i h k = rw (from l i 0 h, from m i 0 k)
+
+-- a part is the byte at its place and the part behind it
+pub part-from : (n m k : ℕ) (l : List ℕ) → n < length l → n + 1 ≡ m → part n (suc k) l ≡ getD l n 0 ∷ part m k l
+part-from n m k l h e = ap (take (suc k)) (from l n 0 h) ∙ ap (λ (j : ℕ). getD l n 0 ∷ part j k l) e
+
+-- a part that lies in the list has its length
+pub part-length : (n k : ℕ) (l : List ℕ) → n + k ≤ length l → length (part n k l) ≡ k
+part-length n k l h = length-take-le k (drop n l) (simp length-drop (omega arith))
+
+-- a part of bytes is bytes
+pub part-bytes : (n k : ℕ) (l : List ℕ) → Bytes l → Bytes (part n k l)
+part-bytes n k l b = take-bytes k (drop n l) (λ i. rw getD-drop (b (n + i)))
+  where
+    take-bytes : (k : ℕ) (v : List ℕ) → Bytes v → Bytes (take k v)
+    take-bytes zero v b i = lit< tt
+    take-bytes (suc k) [] b i = lit< tt
+    take-bytes (suc k) (x ∷ v) b zero = b 0
+    take-bytes (suc k) (x ∷ v) b (suc i) = take-bytes k v (λ j. b (suc j)) i
+
+-- two parts, one behind the other, are one part
+pub part-join : {p q : List ℕ} (n j k m : ℕ) (l : List ℕ) → p ≡ part n j l → q ≡ part m k l → n + j ≡ m → p ++ q ≡ part n (j + k) l
+part-join n j k m l e f h = rw (e, f, ← h) (rw (← drop-drop j n l) (sym (take-add j k (drop n l))))
+
+-- lists of different lengths are not the same
+pub other-length : (l m : List ℕ) → (length l ≡ length m → ⊥) → same l m ≡ false
+other-length [] [] n = absurd (n refl)
+other-length [] (y ∷ m) n = refl
+other-length (x ∷ l) [] n = refl
+other-length (x ∷ l) (y ∷ m) n = rw (other-length l m (λ e. n (ap suc e))) (never (eqb x y))
+  where
+    never : (b : Bool) → (b && false) ≡ false
+    never true = refl
+    never false = refl
+
+-- what is the same is equal, and a list is the same as itself
+pub same-is : (l m : List ℕ) → same l m ≡ true → l ≡ m
+same-is [] [] e = refl
+same-is [] (y ∷ m) e = absurd (false-true e)
+same-is (x ∷ l) [] e = absurd (false-true e)
+same-is (x ∷ l) (y ∷ m) e =
+    ap (λ (z : ℕ). z ∷ l) (eqb-true x y (and-first (eqb x y) (same l m) e))
+    ∙ ap (λ (t : List ℕ). y ∷ t) (same-is l m (and-second (eqb x y) (same l m) e))
+
+pub same-self : (l : List ℕ) → same l l ≡ true
+same-self [] = refl
+same-self (x ∷ l) = rw (eq-eqb x x refl) (same-self l)

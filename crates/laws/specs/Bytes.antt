@@ -1,0 +1,37 @@
+-- Bytes, texts, parts of a list, and bytes laid over an area.
+use Prim.Native.Nat.{ℕ, _+_, _<_}
+use Prim.Native.String.{String}
+use Prim.Native.String.{[] as end, _∷_ as then}
+use Prim.Native.Char.{code}
+use mathlib.Core.Bool.{Bool, true, false, _&&_}
+use mathlib.Core.List.{List, [], _∷_, _++_}
+use lib.ListN.{length, getD, take, drop}
+use lib.Dec.{eqb}
+
+-- every element is a byte
+abbrev pub Bytes : List ℕ → Type 0
+Bytes l = (i : ℕ) → getD l i 0 < 256
+
+-- the bytes of a text
+abbrev pub ascii : String → List ℕ
+ascii end = []
+ascii (then c s) = code c ∷ ascii s
+
+-- k elements from place n on
+abbrev pub part : ℕ → ℕ → List ℕ → List ℕ
+part n k l = take k (drop n l)
+
+-- d with vs laid over it from place n on
+abbrev pub over : List ℕ → ℕ → List ℕ → List ℕ
+over d n vs = take n d ++ vs ++ drop (n + length vs) d
+
+-- "A reply fills the front of the area; bytes after it keep what they held."
+abbrev pub sent : List ℕ → List ℕ → List ℕ
+sent reply area = reply ++ drop (length reply) area
+
+-- whether two lists are the same, byte for byte
+abbrev pub same : List ℕ → List ℕ → Bool
+same [] [] = true
+same [] (y ∷ t) = false
+same (x ∷ s) [] = false
+same (x ∷ s) (y ∷ t) = eqb x y && same s t

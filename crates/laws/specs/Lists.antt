@@ -1,0 +1,26 @@
+-- What is asked of each element of a list.
+use Prim.Native.Nat.{ℕ, zero, suc}
+use mathlib.Core.Bool.{Bool, true, false, _&&_, _||_}
+use mathlib.Core.List.{List, [], _∷_}
+use lib.Dec.{eqb, leb}
+
+-- f says yes of every element
+abbrev pub every : {A : Type 0} → (A → Bool) → List A → Bool
+every f [] = true
+every f (x ∷ xs) = f x && every f xs
+
+-- f says yes of every number below n
+abbrev pub everyBelow : ℕ → (ℕ → Bool) → Bool
+everyBelow zero f = true
+everyBelow (suc n) f = f n && everyBelow n f
+
+-- x is among the listed numbers
+abbrev pub listed : List ℕ → ℕ → Bool
+listed [] x = false
+listed (y ∷ ys) x = eqb x y || listed ys x
+
+-- each number is at most the bound that stands at its place
+abbrev pub within : List ℕ → List ℕ → Bool
+within [] bs = true
+within (x ∷ xs) [] = true
+within (x ∷ xs) (b ∷ bs) = leb x b && within xs bs

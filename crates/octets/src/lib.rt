@@ -1,0 +1,55 @@
+// Leaves that every protocol uses: two areas compared, and numbers high byte first.
+ghost use mathlib.Core.Path.{_≡_};
+ghost use mathlib.Core.List.{[], _∷_};
+ghost use Rattle.laws.specs.Bytes.{same};
+ghost use Rattle.laws.specs.Numbers.{number, inBytes};
+
+// Whether two areas hold the same bytes.
+pub fn same_bytes(a: &[u8], b: &[u8]) -> bool
+    ensures { λ r. ⌜ r ≡ same (now (a .entry)) (now (b .entry)) ⌝ }
+{
+    if a.len() != b.len() {
+        return false;
+    }
+    let mut i = 0;
+    while i < a.len() {
+        if a[i] != b[i] {
+            return false;
+        }
+        i += 1;
+    }
+    true
+}
+
+// The number that two bytes write, high byte first.
+pub fn number2(high: u8, low: u8) -> u16
+    ensures { λ r. ⌜ r ≡ number (high ∷ low ∷ []) ⌝ }
+{
+    high as u16 * 256 + low as u16
+}
+
+// The number that four bytes write, high byte first.
+pub fn number4(a: u8, b: u8, c: u8, d: u8) -> u32
+    ensures { λ r. ⌜ r ≡ number (a ∷ b ∷ c ∷ d ∷ []) ⌝ }
+{
+    a as u32 * 16777216 + b as u32 * 65536 + c as u32 * 256 + d as u32
+}
+
+// The two bytes that write a number.
+pub fn bytes2(v: u16) -> [u8; 2]
+    ensures { λ r. ⌜ r ≡ inBytes 2 v ⌝ }
+{
+    [(v / 256 % 256) as u8, (v % 256) as u8]
+}
+
+// The four bytes that write a number.
+pub fn bytes4(v: u32) -> [u8; 4]
+    ensures { λ r. ⌜ r ≡ inBytes 4 v ⌝ }
+{
+    [
+        (v / 16777216 % 256) as u8,
+        (v / 65536 % 256) as u8,
+        (v / 256 % 256) as u8,
+        (v % 256) as u8,
+    ]
+}

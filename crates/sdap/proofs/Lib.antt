@@ -1,0 +1,5 @@
+pub mod Accepted
+pub mod Determined
+mod Examples
+mod Lengths
+pub mod Round

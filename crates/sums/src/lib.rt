@@ -1,0 +1,16 @@
+// The checksum test.
+ghost use mathlib.Core.Path.{_≡_};
+ghost use Rattle.sums.specs.Sums.{sumsToZero};
+
+// "The checksum test says yes exactly when the bytes of its area sum to 0 modulo 256; an empty area is a yes."
+pub fn sums_to_zero(area: &[u8]) -> bool
+    ensures { λ r. ⌜ r ≡ sumsToZero (now (area .entry)) ⌝ }
+{
+    let mut sum: u8 = 0;
+    let mut i = 0;
+    while i < area.len() {
+        sum = std::num::wrapping_add_u8(sum, area[i]);
+        i += 1;
+    }
+    sum == 0
+}
