@@ -2,4 +2,5 @@ pub mod Areas
 pub mod Conditions
 pub mod Lists
 pub mod Numbers
+pub mod Signed
 pub mod Table

@@ -1,16 +1,17 @@
 -- A loop that asks each element in turn: what is asked of the list from i on is asked of the element at i, then from i + 1 on.
 use mathlib.Core.Path.{_≡_, refl, sym, ap, _∙_}
-use mathlib.Core.Bool.{Bool, true, false, _&&_}
+use mathlib.Core.Bool.{Bool, true, false, _&&_, _||_, and-true}
 use mathlib.Core.List.{List, [], _∷_, _++_}
 use Prim.Native.Nat.{ℕ, zero, suc, _+_, _<_, _≤_}
 use native.Mathlib.Omega.{arith}
+use native.Mathlib.Nat.{add-zero}
 use native.Mathlib.Numerals.{add-one}
 use lib.Dec.{eqb, leb, lit<}
 use lib.ListN.{length, getD, take, drop, drop-of-length-le, length-drop}
-use lib.Seq.{drop-cons, drop-drop, take-add, getD-drop, length-take-le}
+use lib.Seq.{drop-cons, drop-drop, take-add, getD-drop, getD-take, length-take-le}
 use borrow.Author.Tests.{eqb-true, eq-eqb}
 use Rattle.laws.specs.Bytes.{Bytes, part, same}
-use Rattle.laws.specs.Lists.{every, within}
+use Rattle.laws.specs.Lists.{every, listed, within, places}
 use Rattle.laws.proofs.Conditions.{and-first, and-second, false-true}
 
 -- the list from i on is the element at i and the list from i + 1 on
@@ -26,6 +27,32 @@ every-from f l i d h = ap (every f) (from l i d h)
 
 pub every-behind : {A : Type 0} (f : A → Bool) (l : List A) (i : ℕ) → length l ≤ i → every f (drop i l) ≡ true
 every-behind f l i h = ap (every f) (behind l i h)
+
+-- the same of the first n elements: there the element at i is the list's own
+pub first-from : {A : Type 0} (l : List A) (n i : ℕ) (d : A) → i < n → n ≤ length l → drop i (take n l) ≡ getD l i d ∷ drop (i + 1) (take n l)
+first-from l n i d h k =
+    let e : i < length (take n l) = rw (length-take-le n l k) h in
+    from (take n l) i d e ∙ ap (λ x. x ∷ drop (i + 1) (take n l)) (getD-take n l i d h)
+
+pub first-behind : {A : Type 0} (l : List A) (n i : ℕ) → n ≤ i → n ≤ length l → drop i (take n l) ≡ []
+first-behind l n i h k =
+    let e : length (take n l) ≤ i = rw (length-take-le n l k) h in
+    behind (take n l) i e
+
+-- what is asked of two and of three elements is asked of each
+pub every-two : {A : Type 0} (f : A → Bool) (l : List A) (d : A) → length l ≡ 2 → every f l ≡ (f (getD l 0 d) && f (getD l 1 d))
+every-two f [] d e = absurd (omega arith)
+every-two f (x ∷ []) d e = absurd (omega arith)
+every-two f (x ∷ y ∷ []) d e = ap (λ (b : Bool). f x && b) (and-true (f y))
+every-two f (x ∷ y ∷ z ∷ l) d e = absurd (omega arith)
+
+pub every-three : {A : Type 0} (f : A → Bool) (l : List A) (d : A) → length l ≡ 3 → every f l ≡ (f (getD l 0 d) && (f (getD l 1 d) && f (getD l 2 d)))
+every-three f [] d e = absurd (omega arith)
+every-three f (x ∷ l) d e = ap (λ (b : Bool). f x && b) (every-two f l d (omega arith))
+
+-- a number is among those from i on where it is the one at i, or among those from i + 1 on
+pub listed-from : (l : List ℕ) (x i : ℕ) → i < length l → listed (drop i l) x ≡ (eqb x (getD l i 0) || listed (drop (i + 1) l) x)
+listed-from l x i h = ap (λ (m : List ℕ). listed m x) (from l i 0 h)
 
 pub within-from : (l bs : List ℕ) (i : ℕ) → i < length l → i < length bs → within (drop i l) (drop i bs) ≡ (leb (getD l i 0) (getD bs i 0) && within (drop (i + 1) l) (drop (i + 1) bs))
 within-from l bs i h k = rw (from l i 0 h, from bs i 0 k)
@@ -78,3 +105,13 @@ same-is (x ∷ l) (y ∷ m) e =
 pub same-self : (l : List ℕ) → same l l ≡ true
 same-self [] = refl
 same-self (x ∷ l) = rw (eq-eqb x x refl) (same-self l)
+
+-- what stands at a place
+pub places-at : {A : Type 0} (n i k : ℕ) (f : ℕ → A) (d : A) → k < n → getD (places n i f) k d ≡ f (i + k)
+places-at zero i k f d h = absurd (omega arith)
+places-at (suc n) i zero f d h = ap f (sym (add-zero i))
+places-at (suc n) i (suc k) f d h = places-at n (i + 1) k f d (omega arith) ∙ ap f (omega arith)
+
+pub places-length : {A : Type 0} (n i : ℕ) (f : ℕ → A) → length (places n i f) ≡ n
+places-length zero i f = refl
+places-length (suc n) i f = ap suc (places-length n (i + 1) f)

@@ -1,5 +1,5 @@
 -- What is asked of each element of a list.
-use Prim.Native.Nat.{ℕ, zero, suc}
+use Prim.Native.Nat.{ℕ, zero, suc, _+_}
 use mathlib.Core.Bool.{Bool, true, false, _&&_, _||_}
 use mathlib.Core.List.{List, [], _∷_}
 use lib.Dec.{eqb, leb}
@@ -24,3 +24,8 @@ abbrev pub within : List ℕ → List ℕ → Bool
 within [] bs = true
 within (x ∷ xs) [] = true
 within (x ∷ xs) (b ∷ bs) = leb x b && within xs bs
+
+-- f at each of n places, from place i on
+abbrev pub places : {A : Type 0} → ℕ → ℕ → (ℕ → A) → List A
+places zero i f = []
+places (suc n) i f = f i ∷ places n (i + 1) f

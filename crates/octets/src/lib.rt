@@ -1,7 +1,8 @@
-// Leaves that every protocol uses: two areas compared, and numbers high byte first.
+// Leaves that many crates use: two areas compared, numbers listed and bounded, and numbers high byte first.
 ghost use mathlib.Core.Path.{_≡_};
 ghost use mathlib.Core.List.{[], _∷_};
 ghost use Rattle.laws.specs.Bytes.{same};
+ghost use Rattle.laws.specs.Lists.{listed, within};
 ghost use Rattle.laws.specs.Numbers.{number, inBytes};
 
 // Whether two areas hold the same bytes.
@@ -52,4 +53,35 @@ pub fn bytes4(v: u32) -> [u8; 4]
         (v / 256 % 256) as u8,
         (v % 256) as u8,
     ]
+}
+
+// Whether a number is among those listed.
+pub fn is_listed(numbers: &[u8], x: u8) -> bool
+    ensures { λ r. ⌜ r ≡ listed (now (numbers .entry)) x ⌝ }
+{
+    let mut i = 0;
+    while i < numbers.len() {
+        if x == numbers[i] {
+            return true;
+        }
+        i += 1;
+    }
+    false
+}
+
+// Whether each number is at most the bound at its place.
+pub fn are_within(numbers: &[u8], bounds: &[u8]) -> bool
+    ensures { λ r. ⌜ r ≡ within (now (numbers .entry)) (now (bounds .entry)) ⌝ }
+{
+    let mut i = 0;
+    while i < numbers.len() {
+        if bounds.len() <= i {
+            return true;
+        }
+        if bounds[i] < numbers[i] {
+            return false;
+        }
+        i += 1;
+    }
+    true
 }

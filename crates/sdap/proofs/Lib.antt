@@ -3,3 +3,4 @@ pub mod Determined
 mod Examples
 mod Lengths
 pub mod Round
+pub mod Texts

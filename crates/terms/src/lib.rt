@@ -1,5 +1,6 @@
 // The terms that every part of the box shares: its answers with their numbers, and the two kinds of ID.
 ghost use mathlib.Core.Path.{_≡_};
+ghost use lib.Dec.{eqb};
 ghost use Rattle.terms.specs.Answers.{numberOf};
 
 // What the box answers to a message, a configuration or an advert (document 01, "Answer numbers").
@@ -44,3 +45,16 @@ pub struct GroupId(pub u8);
 
 #[repr(C)]
 pub struct UnitId(pub u8);
+
+// Like is compared with like only.
+pub fn same_group(a: GroupId, b: GroupId) -> bool
+    ensures { λ r. ⌜ r ≡ eqb (a .0) (b .0) ⌝ }
+{
+    a.0 == b.0
+}
+
+pub fn same_unit(a: UnitId, b: UnitId) -> bool
+    ensures { λ r. ⌜ r ≡ eqb (a .0) (b .0) ⌝ }
+{
+    a.0 == b.0
+}

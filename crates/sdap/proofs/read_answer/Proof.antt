@@ -1,11 +1,21 @@
 -- `read_answer` gives the first refusal that applies, and else what the shared rules say of the fields.
-use mathlib.Core.Path.{sym, _∙_}
+use Prim.Native.Nat.{ℕ}
+use mathlib.Core.Path.{_≡_, sym, _∙_}
+use mathlib.Core.List.{List}
+use lib.ListN.{getD}
 use borrow.Author.Tests.{eq-eqb, ne-eqb, not-true, not-false}
 use borrow.Author.Needs.{needs}
+use Rattle.laws.specs.Bytes.{part}
+use Rattle.laws.specs.Numbers.{number}
 use Rattle.sdap.specs.Layout.{fieldsOf}
-use Rattle.sdap.specs.Rules.{readAnswer, left}
+use Rattle.sdap.specs.Rules.{verdict, judged, readAnswer}
+use Rattle.terms.specs.declared.Answer.{Answer}
 use Rattle.sdap.proofs.read_answer.Statement.{statement}
 use Rattle.sdap.proofs.read_answer.Tie as tie
+
+agreed : (l : List ℕ) (r : Answer) (power error : ℕ) → power ≡ number (part 24 2 l) → error ≡ number (part 70 2 l) → r ≡ verdict (getD l 3 0) power error (part 8 12 l) (part 26 24 l) (part 72 24 l) (part 96 24 l) → r ≡ judged (fieldsOf l)
+unfolding fieldsOf
+agreed l r power error p e q = q ∙ rw (p, e)
 
 returns : tie.Need-returns
 unfolding readAnswer
@@ -67,12 +77,13 @@ judge-requires : tie.Need-judge-requires
 judge-requires c κs = search needs
 
 returns-3 : tie.Need-returns-3
-unfolding readAnswer fieldsOf
+unfolding readAnswer
 returns-3 c =
     let n = c .before .before .before .before .before .before .before in
     let f = n .before .before in
+    let s = f .before .before .before .args .s .now in
     rw (eq-eqb _ _ (f .before .if1 .left), ← f .is-front .ensures, not-false (f .is-front .result) (n .before .if2 .left))
-    (c .judge .ensures ∙ rw (n .number2-at .ensures, c .before .before .before .before .before .before .number2-at2 .ensures))
+    (agreed s (c .judge .result) (n .number2-at .result) (c .before .before .before .before .before .before .number2-at2 .result) (n .number2-at .ensures) (c .before .before .before .before .before .before .number2-at2 .ensures) (c .judge .ensures))
 
 pub read-answer-spec : {M : Type 1} → statement M
 read-answer-spec =

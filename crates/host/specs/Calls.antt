@@ -1,0 +1,20 @@
+-- What the C host is promised of the advert writer: document 01's answer number, and every byte of its area.
+use Prim.Native.Nat.{ℕ}
+use mathlib.Core.Path.{_≡_}
+use mathlib.Core.List.{List, [], _∷_}
+use lib.ListN.{length}
+use Rattle.terms.specs.Answers.{numberOf}
+use Rattle.sdap.specs.Layout.{advertOf}
+use Rattle.sdap.specs.Rules.{writeAnswer, left}
+use Rattle.sdap.specs.declared.Advert.{Advert}
+
+-- the advert that the call's numbers and areas name
+abbrev pub fieldsFromC : ℕ → List ℕ → ℕ → ℕ → List ℕ → ℕ → ℕ → ℕ → ℕ → ℕ → ℕ → List ℕ → List ℕ → ℕ → ℕ → Advert
+fieldsFromC category product serial power location connected accepted1 accepted2 accepted3 accepted4 error region name group unit =
+    advertOf category product serial power location connected (accepted1 ∷ accepted2 ∷ accepted3 ∷ accepted4 ∷ []) error region name
+    (record { 0 = group }) (record { 0 = unit })
+
+-- the writer's promise with the answer as its number
+pub record WrittenForC (a : Advert) (area : List ℕ) (r : ℕ) (area′ : List ℕ) : Type 0 where
+  pub answer : r ≡ numberOf (writeAnswer (length area) a)
+  pub area-after : area′ ≡ left (writeAnswer (length area) a) a area

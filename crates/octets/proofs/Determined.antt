@@ -1,0 +1,27 @@
+-- Each promise at the door allows one outcome: its equations have the same right sides.
+use mathlib.Core.Path.{_≡_, sym, _∙_}
+use mathlib.Core.Bool.{Bool}
+use mathlib.Core.List.{List, [], _∷_}
+use Prim.Native.Nat.{ℕ}
+use Rattle.laws.specs.Bytes.{same}
+use Rattle.laws.specs.Lists.{listed, within}
+use Rattle.laws.specs.Numbers.{number, inBytes}
+
+pub same-bytes-one : (a b : List ℕ) (r r′ : Bool) → r ≡ same a b → r′ ≡ same a b → r ≡ r′
+same-bytes-one a b r r′ p q = p ∙ sym q
+
+pub is-listed-one : (l : List ℕ) (x : ℕ) (r r′ : Bool) → r ≡ listed l x → r′ ≡ listed l x → r ≡ r′
+is-listed-one l x r r′ p q = p ∙ sym q
+
+pub are-within-one : (l m : List ℕ) (r r′ : Bool) → r ≡ within l m → r′ ≡ within l m → r ≡ r′
+are-within-one l m r r′ p q = p ∙ sym q
+
+pub number2-one : (a b r r′ : ℕ) → r ≡ number (a ∷ b ∷ []) → r′ ≡ number (a ∷ b ∷ []) → r ≡ r′
+number2-one a b r r′ p q = p ∙ sym q
+
+pub number4-one : (a b c d r r′ : ℕ) → r ≡ number (a ∷ b ∷ c ∷ d ∷ []) → r′ ≡ number (a ∷ b ∷ c ∷ d ∷ []) → r ≡ r′
+number4-one a b c d r r′ p q = p ∙ sym q
+
+-- at both widths
+pub bytes-one : (n v : ℕ) (r r′ : List ℕ) → r ≡ inBytes n v → r′ ≡ inBytes n v → r ≡ r′
+bytes-one n v r r′ p q = p ∙ sym q

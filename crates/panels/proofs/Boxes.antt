@@ -1,0 +1,52 @@
+-- A configured box keeps the rules or holds no panels, and what is not judged does not matter to validity.
+use mathlib.Core.Path.{_≡_, refl, sym, ap, _∙_}
+use mathlib.Core.Bool.{Bool, true, false, cond, _&&_}
+use mathlib.Core.List.{List}
+use Prim.Native.Nat.{ℕ, _%_}
+use native.Mathlib.Omega.{arith}
+use lib.Dec.{eqb}
+use lib.ListN.{length}
+use Rattle.laws.proofs.Conditions.{and-second}
+use Rattle.terms.specs.Answers.{numberOf}
+use Rattle.terms.specs.declared.Answer.the-variants.{Done}
+use Rattle.terms.specs.declared.GroupId.{GroupId}
+use Rattle.terms.specs.declared.UnitId.{UnitId}
+use Rattle.panels.specs.Records.{familyW, familyK, noBox}
+use Rattle.panels.specs.Valid.{okPanel, inUse, valid}
+use Rattle.panels.specs.Configure.{asked, refusal, configured}
+use Rattle.panels.specs.declared.WRecord.{WRecord}
+use Rattle.panels.specs.declared.KRecord.{KRecord}
+use Rattle.panels.specs.declared.DisplayBox.{DisplayBox}
+use Rattle.panels.specs.declared.Configured.{Configured}
+
+-- what a configuration gives with an answer: 0 and a box that keeps the rules, or 7 and the one box of no panels
+pub data Outcome : Configured → Type 0 where
+  made : (b : DisplayBox) → valid b ≡ true → Outcome (record { answer = Done; made = b })
+  refused : Outcome refusal
+
+pub outcome : (c : List ℕ) → Outcome (configured c)
+unfolding configured
+outcome c = go (eqb (length c % 3) 0 && valid (asked c)) refl
+  where
+    go : (b : Bool) → (eqb (length c % 3) 0 && valid (asked c)) ≡ b → Outcome (cond b (record { answer = Done; made = asked c }) refusal)
+    go true e = made (asked c) (and-second (eqb (length c % 3) 0) (valid (asked c)) e)
+    go false e = refused
+
+-- the box of no panels breaks the rule "1 to 8 panels"
+pub no-box-invalid : valid noBox ≡ false
+unfolding valid
+no-box-invalid = refl
+
+-- places behind the panels in use are not judged
+pub unused-not-judged : (b b′ : DisplayBox) → b .count ≡ b′ .count → inUse b ≡ inUse b′ → valid b ≡ valid b′
+unfolding valid
+unused-not-judged b b′ e f = rw (f, e)
+
+-- the other family's settings and the spare byte are not judged
+pub w-judges-w : (g : GroupId) (u : UnitId) (s s′ : ℕ) (w : WRecord) (k k′ : KRecord) → okPanel (record { family = familyW; group = g; unit = u; spare = s; w = w; k = k }) ≡ okPanel (record { family = familyW; group = g; unit = u; spare = s′; w = w; k = k′ })
+unfolding okPanel
+w-judges-w g u s s′ w k k′ = refl
+
+pub k-judges-k : (g : GroupId) (u : UnitId) (s s′ : ℕ) (w w′ : WRecord) (k : KRecord) → okPanel (record { family = familyK; group = g; unit = u; spare = s; w = w; k = k }) ≡ okPanel (record { family = familyK; group = g; unit = u; spare = s′; w = w′; k = k })
+unfolding okPanel
+k-judges-k g u s s′ w w′ k = refl

@@ -1,0 +1,4 @@
+pub mod Boxes
+pub mod Determined
+mod Distinct
+mod Examples

@@ -1,0 +1,3 @@
+pub mod Configure
+pub mod Records
+pub mod Valid

@@ -1,0 +1,478 @@
+// The box's records: plain numbers only, so that every bit pattern that a C host can hand in is a value, and validity judges it.
+use octets::are_within;
+use octets::is_listed;
+use settings::most_values;
+use settings::start_values;
+use terms::Answer;
+use terms::GroupId;
+use terms::UnitId;
+use terms::same_group;
+use terms::same_unit;
+ghost use mathlib.Core.Path.{_≡_};
+ghost use mathlib.Core.List.{List};
+ghost use Prim.Native.Nat.{_+_, _*_, _<_, _≤_};
+ghost use lib.ListN.{length, take, drop};
+ghost use Rattle.laws.specs.Lists.{every};
+ghost use Rattle.panels.specs.Records.{startW, startK, zeroPanel, noBox};
+ghost use Rattle.panels.specs.Valid.{okShift, okBias, okInputs, okGain, okBalance, okW, okInput, okK, okIds, zeroIds, okPanel, share, apart, distinct, valid};
+ghost use Rattle.panels.specs.Configure.{asked, freshPanel, refusal, configured};
+
+// The inputs of a W panel: the code of the connector in use, the code of the preset white balance, and which of the ten
+// connectors are ON, in the order of the table of their codes.
+#[repr(C)]
+pub struct Inputs {
+    pub used: u8,
+    pub preset: u8,
+    pub on: [u8; 10],
+}
+
+// White balance: R, G, B.
+#[repr(C)]
+pub struct Balance {
+    pub gains: [u16; 3],
+    pub biases: [i16; 3],
+}
+
+// The settings of a W panel: those of the table, SHIFTH and SHIFTV, the inputs and the white balance.
+#[repr(C)]
+pub struct WRecord {
+    pub settings: [u8; 21],
+    pub shifts: [i8; 2],
+    pub spare: u8,
+    pub inputs: Inputs,
+    pub balance: Balance,
+}
+
+// The settings of a K panel: power, audio mute, picture mute, volume, scene, and the input's type and port.
+#[repr(C)]
+pub struct KRecord {
+    pub power: u8,
+    pub amut: u8,
+    pub pmut: u8,
+    pub volume: u8,
+    pub scene: u8,
+    pub kind: u8,
+    pub port: u16,
+}
+
+// A panel: its family (57h W, 4Bh K), its IDs, and the settings of both families side by side.
+#[repr(C)]
+pub struct Panel {
+    pub family: u8,
+    pub group: GroupId,
+    pub unit: UnitId,
+    pub spare: u8,
+    pub w: WRecord,
+    pub k: KRecord,
+}
+
+// "A box holds 1 to 8 panels, numbered from 1 in the order given."
+#[repr(C)]
+pub struct DisplayBox {
+    pub count: usize,
+    pub panels: [Panel; 8],
+}
+
+// What a configuration gives: its answer, and the box.
+pub struct Configured {
+    pub answer: Answer,
+    pub made: DisplayBox,
+}
+
+// "SHIFTH or SHIFTV with -30 to +30."
+fn shift_ok(z: i8) -> bool
+    ensures { λ r. ⌜ r ≡ okShift z ⌝ }
+{
+    if -30 <= z {
+        return z <= 30;
+    }
+    false
+}
+
+// A bias: "-1024 to 1023".
+fn bias_ok(z: i16) -> bool
+    ensures { λ r. ⌜ r ≡ okBias z ⌝ }
+{
+    if -1024 <= z {
+        return z <= 1023;
+    }
+    false
+}
+
+fn inputs_ok(i: Inputs) -> bool
+    ensures { λ r. ⌜ r ≡ okInputs i ⌝ }
+{
+    let connectors = [0u8, 2, 4, 5, 6, 7, 8, 9, 10, 11];
+    if !is_listed(&connectors, i.used) {
+        return false;
+    }
+    let presets = [0u8, 2, 3];
+    if !is_listed(&presets, i.preset) {
+        return false;
+    }
+    let on = i.on;
+    let ones = [1u8; 10];
+    are_within(&on, &ones)
+}
+
+fn gains_ok(g: [u16; 3]) -> bool
+    ensures { λ r. ⌜ r ≡ every okGain g ⌝ }
+{
+    if 4095 < g[0] {
+        return false;
+    }
+    if 4095 < g[1] {
+        return false;
+    }
+    g[2] <= 4095
+}
+
+fn biases_ok(z: [i16; 3]) -> bool
+    ensures { λ r. ⌜ r ≡ every okBias z ⌝ }
+{
+    if !bias_ok(z[0]) {
+        return false;
+    }
+    if !bias_ok(z[1]) {
+        return false;
+    }
+    bias_ok(z[2])
+}
+
+fn balance_ok(b: Balance) -> bool
+    ensures { λ r. ⌜ r ≡ okBalance b ⌝ }
+{
+    let g = b.gains;
+    if !gains_ok(g) {
+        return false;
+    }
+    let z = b.biases;
+    biases_ok(z)
+}
+
+fn shifts_ok(z: [i8; 2]) -> bool
+    ensures { λ r. ⌜ r ≡ every okShift z ⌝ }
+{
+    if !shift_ok(z[0]) {
+        return false;
+    }
+    shift_ok(z[1])
+}
+
+// Every setting of family W is in its range.
+fn w_ok(w: WRecord) -> bool
+    ensures { λ r. ⌜ r ≡ okW w ⌝ }
+{
+    let settings = w.settings;
+    let most = most_values();
+    if !are_within(&settings, &most) {
+        return false;
+    }
+    let z = w.shifts;
+    if !shifts_ok(z) {
+        return false;
+    }
+    let i = w.inputs;
+    if !inputs_ok(i) {
+        return false;
+    }
+    let b = w.balance;
+    balance_ok(b)
+}
+
+// The input's type and port.
+fn input_ok(kind: u8, port: u16) -> bool
+    ensures { λ r. ⌜ r ≡ okInput kind port ⌝ }
+{
+    let kinds = [1u8, 3, 4, 5];
+    if !is_listed(&kinds, kind) {
+        return false;
+    }
+    if port < 1 {
+        return false;
+    }
+    port <= 9999
+}
+
+// Every setting of family K is in its range.
+fn k_ok(k: KRecord) -> bool
+    ensures { λ r. ⌜ r ≡ okK k ⌝ }
+{
+    if 1 < k.power {
+        return false;
+    }
+    if 1 < k.amut {
+        return false;
+    }
+    if 1 < k.pmut {
+        return false;
+    }
+    if 100 < k.volume {
+        return false;
+    }
+    if 2 < k.scene {
+        return false;
+    }
+    input_ok(k.kind, k.port)
+}
+
+// "A W panel has a group ID 1 to 99 and a unit ID 1 to 99."
+fn ids_ok(g: GroupId, u: UnitId) -> bool
+    ensures { λ r. ⌜ r ≡ okIds g u ⌝ }
+{
+    if g.0 < 1 {
+        return false;
+    }
+    if 99 < g.0 {
+        return false;
+    }
+    if u.0 < 1 {
+        return false;
+    }
+    u.0 <= 99
+}
+
+// "A K panel has 0 for both."
+fn ids_zero(g: GroupId, u: UnitId) -> bool
+    ensures { λ r. ⌜ r ≡ zeroIds g u ⌝ }
+{
+    if g.0 != 0 {
+        return false;
+    }
+    u.0 == 0
+}
+
+// One panel by itself: its family, its IDs, and its own family's settings.
+fn panel_ok(p: Panel) -> bool
+    ensures { λ r. ⌜ r ≡ okPanel p ⌝ }
+{
+    let g = p.group;
+    let u = p.unit;
+    if p.family == 87 {
+        if !ids_ok(g, u) {
+            return false;
+        }
+        let w = p.w;
+        return w_ok(w);
+    }
+    if p.family != 75 {
+        return false;
+    }
+    if !ids_zero(g, u) {
+        return false;
+    }
+    let k = p.k;
+    k_ok(k)
+}
+
+// Two W panels that share both IDs. A group is compared with a group and a unit with a unit.
+fn share_pair(p: Panel, q: Panel) -> bool
+    ensures { λ r. ⌜ r ≡ share p q ⌝ }
+{
+    if p.family != 87 {
+        return false;
+    }
+    if q.family != 87 {
+        return false;
+    }
+    if !same_group(p.group, q.group) {
+        return false;
+    }
+    same_unit(p.unit, q.unit)
+}
+
+// The first n panels are good by themselves.
+fn all_ok(ps: [Panel; 8], n: usize) -> bool
+    requires { ⌜ n ≤ 8 ⌝ }
+    ensures { λ r. ⌜ r ≡ every okPanel (take n ps) ⌝ }
+{
+    let mut i = 0;
+    while i < n {
+        let p = ps[i];
+        if !panel_ok(p) {
+            return false;
+        }
+        i += 1;
+    }
+    true
+}
+
+// None of the panels from a place up to n shares its pair with p.
+fn apart_from(p: Panel, ps: [Panel; 8], from: usize, n: usize) -> bool
+    requires { ⌜ (from ≤ n) × (n ≤ 8) ⌝ }
+    ensures { λ r. ⌜ r ≡ every (apart p) (drop from (take n ps)) ⌝ }
+{
+    let mut i = from;
+    while i < n {
+        let q = ps[i];
+        if share_pair(p, q) {
+            return false;
+        }
+        i += 1;
+    }
+    true
+}
+
+// "No two W panels share both."
+fn all_apart(ps: [Panel; 8], n: usize) -> bool
+    requires { ⌜ n ≤ 8 ⌝ }
+    ensures { λ r. ⌜ r ≡ distinct (take n ps) ⌝ }
+{
+    let mut i = 0;
+    while i < n {
+        let p = ps[i];
+        if !apart_from(p, ps, i + 1, n) {
+            return false;
+        }
+        i += 1;
+    }
+    true
+}
+
+// Whether a box keeps the rules of document 01's first section.
+pub fn is_valid(b: DisplayBox) -> bool
+    ensures { λ r. ⌜ r ≡ valid b ⌝ }
+{
+    let n = b.count;
+    if n < 1 {
+        return false;
+    }
+    if 8 < n {
+        return false;
+    }
+    let ps = b.panels;
+    if !all_ok(ps, n) {
+        return false;
+    }
+    all_apart(ps, n)
+}
+
+fn start_w() -> WRecord
+    ensures { λ r. ⌜ r ≡ startW ⌝ }
+{
+    WRecord {
+        settings: start_values(),
+        shifts: [0; 2],
+        spare: 0,
+        inputs: Inputs {
+            used: 0,
+            preset: 3,
+            on: [1; 10],
+        },
+        balance: Balance {
+            gains: [2048; 3],
+            biases: [0; 3],
+        },
+    }
+}
+
+fn start_k() -> KRecord
+    ensures { λ r. ⌜ r ≡ startK ⌝ }
+{
+    KRecord {
+        power: 0,
+        amut: 0,
+        pmut: 0,
+        volume: 0,
+        scene: 2,
+        kind: 1,
+        port: 1,
+    }
+}
+
+// A panel at its start values.
+fn fresh_panel(family: u8, group: u8, unit: u8) -> Panel
+    ensures { λ r. ⌜ r ≡ freshPanel family group unit ⌝ }
+{
+    Panel {
+        family,
+        group: GroupId(group),
+        unit: UnitId(unit),
+        spare: 0,
+        w: start_w(),
+        k: start_k(),
+    }
+}
+
+fn zero_panel() -> Panel
+    ensures { λ r. ⌜ r ≡ zeroPanel ⌝ }
+{
+    Panel {
+        family: 0,
+        group: GroupId(0),
+        unit: UnitId(0),
+        spare: 0,
+        w: WRecord {
+            settings: [0; 21],
+            shifts: [0; 2],
+            spare: 0,
+            inputs: Inputs {
+                used: 0,
+                preset: 0,
+                on: [0; 10],
+            },
+            balance: Balance {
+                gains: [0; 3],
+                biases: [0; 3],
+            },
+        },
+        k: KRecord {
+            power: 0,
+            amut: 0,
+            pmut: 0,
+            volume: 0,
+            scene: 0,
+            kind: 0,
+            port: 0,
+        },
+    }
+}
+
+// The box that three bytes a panel ask for.
+fn asked_box(c: &[u8]) -> DisplayBox
+    requires { ⌜ length (now c) ≤ 24 ⌝ }
+    ensures { λ r. ⌜ r ≡ asked (now (c .entry)) ⌝ }
+{
+    let n = c.len() / 3;
+    let empty = zero_panel();
+    let mut panels = [empty; 8];
+    let mut i = 0;
+    while i < n {
+        panels[i] = fresh_panel(c[i * 3], c[i * 3 + 1], c[i * 3 + 2]);
+        i += 1;
+    }
+    DisplayBox { count: n, panels }
+}
+
+fn refused() -> Configured
+    ensures { λ r. ⌜ r ≡ refusal ⌝ }
+{
+    let empty = zero_panel();
+    Configured {
+        answer: Answer::BadConfiguration,
+        made: DisplayBox {
+            count: 0,
+            panels: [empty; 8],
+        },
+    }
+}
+
+// A new box: three bytes a panel, its family (57h or 4Bh), its group and its unit.
+pub fn configure(c: &[u8]) -> Configured
+    ensures { λ r. ⌜ r ≡ configured (now (c .entry)) ⌝ }
+{
+    if 24 < c.len() {
+        return refused();
+    }
+    if c.len() % 3 != 0 {
+        return refused();
+    }
+    let b = asked_box(c);
+    if !is_valid(b) {
+        return refused();
+    }
+    Configured {
+        answer: Answer::Done,
+        made: b,
+    }
+}
