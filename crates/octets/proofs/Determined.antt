@@ -22,6 +22,12 @@ number2-one a b r r′ p q = p ∙ sym q
 pub number4-one : (a b c d r r′ : ℕ) → r ≡ number (a ∷ b ∷ c ∷ d ∷ []) → r′ ≡ number (a ∷ b ∷ c ∷ d ∷ []) → r ≡ r′
 number4-one a b c d r r′ p q = p ∙ sym q
 
--- at both widths
-pub bytes-one : (n v : ℕ) (r r′ : List ℕ) → r ≡ inBytes n v → r′ ≡ inBytes n v → r ≡ r′
+-- at every width
+bytes-one : (n v : ℕ) (r r′ : List ℕ) → r ≡ inBytes n v → r′ ≡ inBytes n v → r ≡ r′
 bytes-one n v r r′ p q = p ∙ sym q
+
+pub bytes2-one : (v : ℕ) (r r′ : List ℕ) → r ≡ inBytes 2 v → r′ ≡ inBytes 2 v → r ≡ r′
+bytes2-one = bytes-one 2
+
+pub bytes4-one : (v : ℕ) (r r′ : List ℕ) → r ≡ inBytes 4 v → r′ ≡ inBytes 4 v → r ≡ r′
+bytes4-one = bytes-one 4

@@ -1,0 +1,55 @@
+# Sourced by the scripts of this repository: how to run and link what the kit compiles, which is for x86-64 alone.
+# On an x86-64 machine programs and archive are used as they are. On another machine the kit brings a C compiler, a linker
+# and an emulator for x86-64, and these are used.
+machine=$(uname -m)
+kit=$(cd "$(dirname "$(rt doc)")/.." && pwd) || exit 2
+tools=$kit/on/$machine/toolchain
+c_flags=(-std=c11 -O2 -g -Wall -Wextra -Wpedantic -Werror -Iinclude)
+
+# run_program PROGRAM ARG..
+run_program() {
+    if [ "$machine" = x86_64 ]; then
+        "$@"
+    else
+        "$tools/bin/qemu-x86_64" "$tools/lib/ld-linux-x86-64.so.2" --library-path "$tools/lib" "$@"
+    fi
+}
+
+# c_program OUT FILE.c ARCHIVE: a C program linked with the archive that is handed out
+c_program() {
+    if [ "$machine" = x86_64 ]; then
+        gcc "${c_flags[@]}" "$2" "$3" -o "$1"
+        return
+    fi
+    gcc "${c_flags[@]}" -fsyntax-only "$2" &&
+        gcc "${c_flags[@]}" -E "$2" -o "$1.i" &&
+        "$tools/bin/clang" --target=x86_64-linux-gnu -std=c11 -O2 -c -x cpp-output "$1.i" -o "$1.o" &&
+        "$kit/on/$machine/bin/rattle-link" --target x86_64-unknown-linux-gnu --toolchain "$tools" -o "$1" "$1.o" "$3"
+}
+
+# memcheck_program OUT FILE.c CRATE: the same C program in a form that valgrind can run. Valgrind runs the code of its own
+# machine only: on another machine than x86-64 the very module that becomes the archive is compiled for this machine as well,
+# by a kit that is the installed one but for a C compiler that does both.
+memcheck_program() {
+    if [ "$machine" = x86_64 ]; then
+        gcc "${c_flags[@]}" "$2" "target/staticlib/lib$3.a" -o "$1"
+        return
+    fi
+    local shadow object entry
+    shadow=$PWD/target/shadow-kit
+    object=$PWD/$1.module.o
+    rm -rf "$shadow" "$object"
+    mkdir -p "$shadow/on/$machine/toolchain/bin" "$(dirname "$1")"
+    for entry in "$kit"/*; do [ "${entry##*/}" = on ] || ln -s "$entry" "$shadow/"; done
+    for entry in "$kit/on/$machine"/*; do [ "${entry##*/}" = toolchain ] || ln -s "$entry" "$shadow/on/$machine/"; done
+    for entry in "$tools"/*; do [ "${entry##*/}" = bin ] || ln -s "$entry" "$shadow/on/$machine/toolchain/"; done
+    for entry in "$tools"/bin/*; do [ "${entry##*/}" = clang ] || ln -s "$entry" "$shadow/on/$machine/toolchain/bin/"; done
+    cat > "$shadow/on/$machine/toolchain/bin/clang" <<END
+#!/bin/sh
+case "\$*" in *module.bc*) "$tools/bin/clang" --target=$machine-unknown-linux-gnu -w -O2 -g -fPIC -c -x ir module.bc -o "$object" 2> /dev/null ;; esac
+exec "$tools/bin/clang" "\$@"
+END
+    chmod +x "$shadow/on/$machine/toolchain/bin/clang"
+    RATTLE_HOME=$shadow rt staticlib "$3" > "$1.log" 2>&1 || { cat "$1.log"; return 1; }
+    gcc "${c_flags[@]}" "$2" "$object" -o "$1"
+}
