@@ -1,0 +1,207 @@
+//! The words of document 01 and of the manuals, and near misses of them.
+
+use crate::rng::Rng;
+
+pub const LEVELS: [&str; 3] = ["PHASE", "CHROMA", "VOLUME"];
+pub const SHIFTS: [&str; 2] = ["SHIFTH", "SHIFTV"];
+pub const CHOICES: [&str; 7] = [
+    "MODE0",
+    "MODE1",
+    "MODE2",
+    "NTSC0",
+    "NTSC75",
+    "RGB RANGE FULL",
+    "RGB RANGE LIMITED",
+];
+pub const CHOICE_NAMES: [&str; 3] = ["MODE", "NTSC", "RGB RANGE"];
+pub const SWITCHES: [&str; 15] = [
+    "REMOTE",
+    "POWERSAVING",
+    "KEYINHIBIT",
+    "TALLYGREEN",
+    "TALLYRED",
+    "HVDELAY",
+    "BLUEONLY",
+    "MONOCHR",
+    "CAMERA FOCUS",
+    "LED",
+    "SCREENSAVER",
+    "SILENTMODE",
+    "FLIPH",
+    "FLIPV",
+    "FLIPHV",
+];
+
+/// Words of the manuals, and others, that document 01 does not take.
+pub const STRANGERS: [&str; 40] = [
+    "STATset CONTRAST 50",
+    "STATset BRIGHTNESS 50",
+    "STATset APERTURE 3",
+    "STATset APA ON",
+    "STATset PICMIRROR ON",
+    "STATset SPLASHLOGO OFF",
+    "STATset INPUTSEL DVI",
+    "STATset WBSEL USER",
+    "STATset PITCH 3",
+    "STATset SIZEH 3",
+    "STATset SMPTE",
+    "STATset BETA75",
+    "STATset ENGLISH",
+    "STATset GAMMA3",
+    "STATset MARKER ON",
+    "STATset EXTSYNC OFF",
+    "STATset SCANMODE OVER",
+    "STATset ASPECT 4BY3",
+    "STATset MODE",
+    "STATset MODE3",
+    "STATset MODE 0",
+    "STATset NTSC",
+    "STATset NTSC7",
+    "STATset NTSC 75",
+    "STATset RGB RANGE",
+    "STATset RGB FULL",
+    "STATset RGBRANGE FULL",
+    "STATset RANGE FULL",
+    "STATset FLIP ON",
+    "STATset CAMERA ON",
+    "STATset FOCUS ON",
+    "STATset CAMERAFOCUS ON",
+    "STATset ON",
+    "STATget RESET",
+    "STATget MODE0",
+    "STATget NTSC75",
+    "STATget RGB",
+    "STATget CAMERA",
+    "STATret VOLUME 30",
+    "INFObutton MENU",
+];
+
+/// Every name that STATget takes.
+pub fn names() -> Vec<&'static str> {
+    [&LEVELS[..], &SHIFTS, &CHOICE_NAMES, &SWITCHES].concat()
+}
+
+/// One good data area for each setting, and one for each question.
+pub fn good_texts() -> Vec<String> {
+    let mut texts = Vec::new();
+    for (place, name) in LEVELS.iter().enumerate() {
+        texts.push(format!("STATset {name} {}", 61 + place));
+    }
+    for (place, name) in SHIFTS.iter().enumerate() {
+        texts.push(format!("STATset {name} -{}", 11 + place));
+        texts.push(format!("STATset {name} +{}", 21 + place));
+    }
+    for choice in CHOICES {
+        texts.push(format!("STATset {choice}"));
+    }
+    texts.push("STATset RESET".to_string());
+    for (place, switch) in SWITCHES.iter().enumerate() {
+        let state = if place % 2 == 0 { "OFF" } else { "ON" };
+        texts.push(format!("STATset {switch} {state}"));
+    }
+    for name in names() {
+        texts.push(format!("STATget {name}"));
+    }
+    texts
+}
+
+/// A word for the place of a level: round its bounds, and what is no such number.
+pub fn level(rng: &mut Rng) -> String {
+    match rng.below(12) {
+        0..=4 => rng.below(101).to_string(),
+        5 => rng.pick(&["0", "1", "99", "100"]).to_string(),
+        6 => rng
+            .pick(&["101", "102", "110", "127", "128", "255"])
+            .to_string(),
+        7 => rng
+            .pick(&["256", "257", "296", "65536", "65576"])
+            .to_string(),
+        8 => rng
+            .pick(&["4294967296", "4294967336", "18446744073709551656"])
+            .to_string(),
+        9 => rng
+            .pick(&["00", "01", "007", "040", "0100", "000"])
+            .to_string(),
+        10 => rng
+            .pick(&["+5", "-5", "+0", "-0", "+", "-", "", "+100"])
+            .to_string(),
+        _ => rng
+            .pick(&["5a", "a5", "4O", "0x5", "5.", "ON", "1e1", "\u{0}"])
+            .to_string(),
+    }
+}
+
+/// A word for the place of a shift.
+pub fn shift(rng: &mut Rng) -> String {
+    let sign = rng.pick(&["", "+", "-"]);
+    match rng.below(12) {
+        0..=4 => format!("{sign}{}", rng.below(31)),
+        5 => format!("{sign}{}", rng.pick(&["0", "1", "29", "30", "31", "32"])),
+        6 => format!("{sign}{}", rng.pick(&["100", "127", "128", "129", "226"])),
+        7 => format!("{sign}{}", rng.pick(&["255", "256", "257", "286", "65536"])),
+        8 => format!("{sign}{}", rng.pick(&["4294967296", "4294967301"])),
+        9 => format!("{sign}{}", rng.pick(&["00", "05", "030", "000"])),
+        10 => rng
+            .pick(&["+", "-", "", "++5", "--5", "+-5", "-+5", "5-", "5+"])
+            .to_string(),
+        _ => rng
+            .pick(&["5a", "a5", "3O", "0x5", "5.", "ON", "- 5", "+ 5"])
+            .to_string(),
+    }
+}
+
+/// A data area that is good, or nearly.
+pub fn text(rng: &mut Rng) -> Vec<u8> {
+    let good = match rng.below(20) {
+        0..=3 => format!("STATset {} {}", rng.pick(&LEVELS), level(rng)),
+        4..=6 => format!("STATset {} {}", rng.pick(&SHIFTS), shift(rng)),
+        7..=8 => format!("STATset {}", rng.pick(&CHOICES)),
+        9 => "STATset RESET".to_string(),
+        10..=13 => format!(
+            "STATset {} {}",
+            rng.pick(&SWITCHES),
+            rng.pick(&["ON", "OFF"])
+        ),
+        14..=18 => format!("STATget {}", rng.pick(&names())),
+        _ => rng.pick(&STRANGERS).to_string(),
+    };
+    let good = good.into_bytes();
+    if rng.below(10) < 7 {
+        good
+    } else {
+        near_miss(rng, good)
+    }
+}
+
+/// Something close to a good data area.
+fn near_miss(rng: &mut Rng, good: Vec<u8>) -> Vec<u8> {
+    let mut text = good;
+    let place = rng.below(text.len());
+    match rng.below(16) {
+        0 => text.push(b' '),
+        1 => text.push(0x00),
+        2 => text.insert(0, b' '),
+        3 => text.insert(place, b' '),
+        4 => text[place] = text[place].to_ascii_lowercase(),
+        5 => text[place] = text[place].to_ascii_uppercase(),
+        6 => text[place] = text[place].wrapping_add(1),
+        7 => text[place] ^= 0x80,
+        8 => text.truncate(place),
+        9 => {
+            text.remove(place);
+        }
+        10 => text.extend_from_slice(b" ON"),
+        11 => {
+            let at = text.iter().position(|byte| *byte == b' ').unwrap_or(0);
+            text.insert(at, b' ');
+        }
+        12 => {
+            let at = text.iter().rposition(|byte| *byte == b' ').unwrap_or(0);
+            text[at] = rng.pick(b"\t\0\n_");
+        }
+        13 => text.insert(place, text[place]),
+        14 => text.push(rng.byte()),
+        _ => text[place] = rng.byte(),
+    }
+    text
+}

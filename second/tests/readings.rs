@@ -1,0 +1,489 @@
+//! How document 01 is read where it leaves a choice (docs/DECISIONS.md, "Messages"): a test for each reading.
+
+mod common;
+
+use common::*;
+use second::address::{addressed, WayIn};
+use second::advert::{self, Wanted};
+use second::config::{configure, DisplayBox};
+use second::panel::{Connector, GroupId, UnitId};
+
+fn words(held: &mut DisplayBox, text: &[u8]) -> Told {
+    tcp(held, 1, &packet(0, 0, text))
+}
+
+// 22h OFF for the only connector that is ON: ignored, ACK, answer 0. ON and ALL RESET are
+// always carried out.
+#[test]
+fn the_only_connector_that_is_on_stays_on() {
+    let mut held = usual_box();
+    for code in [0, 2, 4, 5, 6, 7, 8, 9, 10] {
+        assert_eq!(rs232(&mut held, 1, &serial(&[0x22, 0x10 | code])), ack());
+    }
+    let alone = held.clone();
+    assert_eq!(rs232(&mut held, 1, &serial(&[0x22, 0x1B])), ack());
+    assert_eq!(held, alone);
+    // OFF for one that is OFF already changes nothing either.
+    assert_eq!(rs232(&mut held, 1, &serial(&[0x22, 0x19])), ack());
+    assert_eq!(held, alone);
+    assert_eq!(rs232(&mut held, 1, &serial(&[0x22, 0x29])), ack());
+    assert!(w(&mut held, 1).connector_is_on(Connector::Hd15));
+    assert_eq!(rs232(&mut held, 1, &serial(&[0x22, 0x3F])), ack());
+    assert_eq!(held, usual_box());
+}
+
+// A box handed in with no connector ON, or with a connector in use that is OFF, is in range.
+#[test]
+fn no_connector_on_is_in_range() {
+    let mut held = usual_box();
+    for connector in Connector::ALL {
+        w(&mut held, 1).turn_connector(connector, false);
+    }
+    assert!(held.keeps_the_rules());
+    let before = held.clone();
+    assert_eq!(rs232(&mut held, 1, &serial(&[0x22, 0x10])), ack());
+    assert_eq!(held, before);
+    assert_eq!(rs232(&mut held, 1, &serial(&[0x22, 0x20])), ack());
+    assert!(w(&mut held, 1).connector_is_on(Connector::Composite));
+}
+
+// REMOTE, KEYINHIBIT and the other switches gate nothing. A K panel in standby obeys all
+// commands.
+#[test]
+fn switches_gate_nothing() {
+    let mut held = usual_box();
+    assert_eq!(words(&mut held, b"STATset REMOTE OFF").0, 0);
+    assert_eq!(words(&mut held, b"STATset KEYINHIBIT ON").0, 0);
+    assert_eq!(words(&mut held, b"STATset POWERSAVING ON").0, 0);
+    assert_eq!(words(&mut held, b"STATset VOLUME 7").0, 0);
+    assert_eq!(rs232(&mut held, 1, &serial(&[0x21, 0x01, 0x08])), ack());
+    assert_eq!(w(&mut held, 1).volume, 7);
+    assert_eq!(w(&mut held, 1).input, Connector::Dvi);
+
+    assert!(!k(&mut held, 4).power);
+    assert_eq!(kjw(&mut held, 4, &frame("CVOLU0000000000000029")).0, 0);
+    assert_eq!(k(&mut held, 4).volume, 29);
+}
+
+// A bad configuration gives 7 and the one box of no panels.
+#[test]
+fn a_bad_configuration_is_7() {
+    let bad: [&[u8]; 10] = [
+        b"",
+        b"W\x01",
+        b"W\x01\x01K",
+        b"X\x01\x01",
+        b"W\x00\x01",
+        b"W\x01\x64",
+        b"W\xFF\xFF",
+        b"K\x00\x01",
+        b"W\x01\x02K\0\0W\x01\x02",
+        b"W\x01\x01W\x01\x02W\x01\x03W\x01\x04W\x01\x05W\x01\x06W\x01\x07W\x01\x08W\x01\x09",
+    ];
+    for description in bad {
+        let (answer, new_box) = configure(description);
+        assert_eq!(answer.number(), 7);
+        assert_eq!(new_box, DisplayBox::of_no_panels());
+    }
+    let (answer, new_box) = configure(b"W\x63\x63K\0\0K\0\0W\x63\x01W\x01\x63");
+    assert_eq!(answer.number(), 0);
+    assert_eq!(new_box.panels.len(), 5);
+}
+
+// A bad box handed in with a message is never 7: it is answered as a box of no panels and comes
+// back as it came.
+#[test]
+fn a_bad_box_is_a_box_of_no_panels() {
+    let spoil: [fn(&mut DisplayBox); 14] = [
+        |held| w(held, 2).phase = 101,
+        |held| w(held, 2).chroma = 101,
+        |held| w(held, 2).volume = 255,
+        |held| w(held, 2).shift_h = 31,
+        |held| w(held, 2).shift_v = -31,
+        |held| w(held, 2).gain[1] = 4096,
+        |held| w(held, 2).bias[2] = 1024,
+        |held| w(held, 2).bias[0] = -1025,
+        |held| k(held, 4).volume = 101,
+        |held| k(held, 4).port = 0,
+        |held| k(held, 4).port = 10000,
+        |held| held.panels[1].unit = UnitId(1),
+        |held| held.panels[3].group = GroupId(1),
+        |held| held.panels[0].group = GroupId(100),
+    ];
+    for spoil in spoil {
+        let mut held = usual_box();
+        spoil(&mut held);
+        let before = held.clone();
+        let set = packet(0, 0, b"STATset LED ON");
+        assert_eq!(tcp(&mut held, 1, &set), (2, vec![]));
+        assert_eq!(tcp_in(&mut held, 1, 511, &set), (1, vec![]));
+        assert_eq!(rs232(&mut held, 1, &serial(&[0x6E])), (2, vec![]));
+        assert_eq!(
+            kjw(&mut held, 4, &frame("CTPOW################")),
+            (2, vec![])
+        );
+        let all = packet(0xFF, 0xFF, b"STATset LED ON");
+        assert_eq!(udp(&mut held, &all), 4);
+        assert_eq!(udp(&mut held, &all[..12]), 3);
+        assert_eq!(held, before);
+    }
+    let nine = (1..=9).map(|unit| (b'W', 1, unit));
+    let mut held = DisplayBox {
+        panels: nine
+            .flat_map(|panel| new_box(&[panel]).panels)
+            .collect::<Vec<_>>(),
+    };
+    assert_eq!(rs232(&mut held, 1, &serial(&[0x6E])), (2, vec![]));
+}
+
+// A box of count 0 is a box of no panels.
+#[test]
+fn a_box_of_count_0() {
+    let mut held = DisplayBox::of_no_panels();
+    assert_eq!(rs232_in(&mut held, 1, 511, b""), (1, vec![]));
+    assert_eq!(rs232(&mut held, 1, &serial(&[0x6E])), (2, vec![]));
+    assert_eq!(udp(&mut held, b""), 3);
+    assert_eq!(udp(&mut held, &packet(0xFF, 0xFF, b"STATget LED")), 4);
+}
+
+// STATget by UDP is 0 without reply; an unknown name 6.
+#[test]
+fn statget_by_udp() {
+    let mut held = usual_box();
+    assert_eq!(udp(&mut held, &packet(1, 0xFF, b"STATget VOLUME")), 0);
+    assert_eq!(udp(&mut held, &packet(1, 0xFF, b"STATget LOUDNESS")), 6);
+    assert_eq!(held, usual_box());
+}
+
+// TCP by pair on another panel's link: the panel with the pair obeys, the reply goes into the
+// link's area with the request's own first eight bytes. Check 2 looks at the link's panel alone,
+// so by pair on a K panel's link is 2.
+#[test]
+fn by_pair_on_another_link() {
+    let mut held = usual_box();
+    let set = packet(2, 1, b"STATset VOLUME 9");
+    assert_eq!(tcp(&mut held, 1, &set), (0, ok(2, 1, b"")));
+    assert_eq!(w(&mut held, 1).volume, 30);
+    assert_eq!(w(&mut held, 3).volume, 9);
+    let get = packet(2, 1, b"STATget VOLUME");
+    assert_eq!(tcp(&mut held, 2, &get), (0, ok(2, 1, b"VOLUME 9")));
+    assert_eq!(tcp(&mut held, 4, &get), (2, vec![]));
+    assert_eq!(tcp(&mut held, 5, &get), (2, vec![]));
+}
+
+// The manuals' 0/unit and group/0 address nobody. UDP 0/0 and UDP by pair are 4.
+#[test]
+fn ways_of_addressing_that_address_nobody() {
+    let mut held = usual_box();
+    let by_tcp = [
+        (0, 1),
+        (1, 0),
+        (0, 0xFF),
+        (1, 0xFF),
+        (0xFF, 0xFF),
+        (0xFF, 1),
+        (2, 2),
+        (100, 1),
+        (1, 100),
+    ];
+    for (group, unit) in by_tcp {
+        let set = packet(group, unit, b"STATset LED ON");
+        assert_eq!(tcp(&mut held, 1, &set), (4, vec![]));
+    }
+    let by_udp = [
+        (0, 0),
+        (1, 1),
+        (1, 0),
+        (0, 1),
+        (0, 0xFF),
+        (0xFF, 1),
+        (0xFF, 0),
+        (3, 0xFF),
+        (100, 0xFF),
+    ];
+    for (group, unit) in by_udp {
+        assert_eq!(udp(&mut held, &packet(group, unit, b"STATset LED ON")), 4);
+    }
+    assert_eq!(held, usual_box());
+}
+
+// `addressed` reads the way in and bytes 0 to 7; one of 8 to 12 bytes may be addressed and is
+// still answered 3.
+#[test]
+fn addressed_reads_bytes_0_to_7() {
+    let mut held = usual_box();
+    let own = packet(0, 0, b"");
+    for length in 0..8 {
+        assert!(addressed(&held, WayIn::Tcp(1), &own[..length]).is_empty());
+    }
+    for length in 8..=13 {
+        assert_eq!(addressed(&held, WayIn::Tcp(1), &own[..length]), [0]);
+    }
+    for length in 0..13 {
+        assert_eq!(tcp(&mut held, 1, &own[..length]), (3, vec![]));
+    }
+    let group = packet(1, 0xFF, b"");
+    assert_eq!(addressed(&held, WayIn::Udp, &group[..8]), [0, 1]);
+    let all = packet(0xFF, 0xFF, b"");
+    assert_eq!(addressed(&held, WayIn::Udp, &all[..8]), [0, 1, 2]);
+    for place in 0..6 {
+        let mut bytes = all.clone();
+        bytes[place] ^= 0x20;
+        assert!(addressed(&held, WayIn::Udp, &bytes).is_empty());
+    }
+    assert_eq!(addressed(&held, WayIn::Rs232c(2), b""), [1]);
+    assert_eq!(addressed(&held, WayIn::Kjw(4), b""), [3]);
+}
+
+// 21h: both marked parts are checked before either is applied; no part marked: ACK, nothing
+// changes.
+#[test]
+fn input_config_checks_both_parts_first() {
+    let mut held = usual_box();
+    assert_eq!(rs232(&mut held, 1, &serial(&[0x21, 0x03, 0x18])), nak(6));
+    assert_eq!(rs232(&mut held, 1, &serial(&[0x21, 0x03, 0x01])), nak(6));
+    assert_eq!(rs232(&mut held, 1, &serial(&[0x21, 0x00, 0x11])), ack());
+    assert_eq!(rs232(&mut held, 1, &serial(&[0x21, 0xFC, 0xFF])), ack());
+    assert_eq!(held, usual_box());
+}
+
+// 61h compares the whole byte with 1 and 2.
+#[test]
+fn white_balance_sense_takes_the_whole_byte() {
+    let mut held = usual_box();
+    for which in (0..=255).filter(|which| ![1, 2].contains(which)) {
+        assert_eq!(rs232(&mut held, 1, &serial(&[0x61, which])), nak(6));
+    }
+}
+
+// 40h with mask 0, 40h, 80h or C0h: accepted with one data byte, nothing changes.
+#[test]
+fn a_mask_of_no_value() {
+    let mut held = usual_box();
+    for mask in [0x00, 0x40, 0x80, 0xC0] {
+        assert_eq!(rs232(&mut held, 1, &serial(&[0x40, mask])), ack());
+        assert_eq!(rs232(&mut held, 1, &serial(&[0x40, mask, 0])), nak(6));
+        assert_eq!(rs232(&mut held, 1, &serial(&[0x40, mask, 0, 0])), nak(6));
+    }
+    assert_eq!(held, usual_box());
+}
+
+// 71h carries that byte and three values, no 04h; NAK carries no error byte.
+#[test]
+fn white_balance_reply() {
+    let mut held = usual_box();
+    w(&mut held, 1).gain = [1, 4095, 256];
+    w(&mut held, 1).bias = [-1, -1024, 1023];
+    let told = rs232(&mut held, 1, &serial(&[0x61, 1]));
+    let gains = [0x71, 1, 0x01, 0x00, 0xFF, 0x0F, 0x00, 0x01];
+    assert_eq!(told, (0, serial_reply(&gains)));
+    let told = rs232(&mut held, 1, &serial(&[0x61, 2]));
+    let biases = [0x71, 2, 0xFF, 0x07, 0x00, 0x04, 0xFF, 0x03];
+    assert_eq!(told, (0, serial_reply(&biases)));
+}
+
+// KJW 6 echoes the request's four letters whatever they are.
+#[test]
+fn kjw_6_echoes_the_letters() {
+    let mut held = usual_box();
+    let mut bytes = frame("CPOWR0000000000000000");
+    bytes[3..7].copy_from_slice(&[0x00, 0xFF, 0x0A, b'*']);
+    let mut reply = frame("APOWRFFFFFFFFFFFFFFFF");
+    reply[3..7].copy_from_slice(&[0x00, 0xFF, 0x0A, b'*']);
+    assert_eq!(kjw(&mut held, 4, &bytes), (6, reply));
+}
+
+// INPT is type and port together for 'changed'. Setting the value that is held: answer alone.
+#[test]
+fn inpt_changes_by_type_or_port() {
+    let mut held = usual_box();
+    let answer = frame("AINPT0000000000000000");
+    let same = kjw(&mut held, 4, &frame("CINPT0000000100000001"));
+    assert_eq!(same, (0, answer.clone()));
+    for value in ["0000000300000001", "0000000300009999", "0000000100000001"] {
+        let told = kjw(&mut held, 4, &frame(&format!("CINPT{value}")));
+        let both = [answer.clone(), frame(&format!("NINPT{value}"))].concat();
+        assert_eq!(told, (0, both));
+    }
+    for same in ["CVOLU", "CAMUT", "CPMUT", "CPOWR"] {
+        let text = format!("{same}0000000000000000");
+        let told = kjw(&mut held, 4, &frame(&text));
+        assert_eq!(told, (0, frame(&text.replace('C', "A"))));
+    }
+}
+
+// RESET is the two shifts alone. `+5` and `5` are one value; a number of any length out of range
+// is 6 and is never reduced.
+#[test]
+fn reset_and_numbers() {
+    let mut held = usual_box();
+    assert_eq!(words(&mut held, b"STATset SHIFTH 5").0, 0);
+    let plain = held.clone();
+    assert_eq!(words(&mut held, b"STATset SHIFTH +5").0, 0);
+    assert_eq!(held, plain);
+    assert_eq!(words(&mut held, b"STATset SHIFTV -7").0, 0);
+    assert_eq!(words(&mut held, b"STATset PHASE 1").0, 0);
+    assert_eq!(words(&mut held, b"STATset RESET").0, 0);
+    assert_eq!(w(&mut held, 1).shift_h, 0);
+    assert_eq!(w(&mut held, 1).shift_v, 0);
+    assert_eq!(w(&mut held, 1).phase, 1);
+    let huge = [b"STATset PHASE 1".to_vec(), vec![b'0'; 400]].concat();
+    let before = held.clone();
+    for bad in [
+        &b"STATset PHASE 256"[..],
+        b"STATset PHASE 4294967296",
+        b"STATset PHASE 18446744073709551616",
+        b"STATset SHIFTH 256",
+        b"STATset SHIFTH -256",
+        &huge,
+    ] {
+        assert_eq!(words(&mut held, bad), (6, ok(0, 0, b"")));
+        assert_eq!(held, before);
+    }
+}
+
+// A leading space, two spaces, a tab, a further word, or no data is 6.
+#[test]
+fn words_as_they_stand() {
+    let mut held = usual_box();
+    for bad in [
+        &b" STATset LED ON"[..],
+        b"STATset  LED ON",
+        b"STATset LED  ON",
+        b"STATset\tLED ON",
+        b"STATset LED ON ON",
+        b"STATset LED ON ",
+        b"STATset LED ON\0",
+        b"STATset LED",
+        b"STATset ON",
+        b"STATset",
+        b"STATset ",
+        b"STATget LED ",
+        b"STATget",
+        b" ",
+        b"",
+    ] {
+        assert_eq!(words(&mut held, bad), (6, ok(0, 0, b"")));
+    }
+    assert_eq!(held, usual_box());
+}
+
+// NG echoes the item as it came.
+#[test]
+fn ng_echoes_the_item() {
+    let mut held = usual_box();
+    let mut bytes = packet(1, 1, b"STATset LED ON");
+    bytes[9..11].copy_from_slice(&[0xB0, 0x01]);
+    let reply = hex("03 0B 53 4F 4E 59 01 01 00 B0 01 00 02 F0 50");
+    assert_eq!(tcp(&mut held, 2, &bytes), (5, reply));
+    assert_eq!(held, usual_box());
+}
+
+// Adverts: group and unit are any byte; a text of zeros is good.
+#[test]
+fn adverts_take_any_ids() {
+    for byte in 0..=255 {
+        let mut bytes = advert();
+        bytes[120] = byte;
+        bytes[121] = byte ^ 0xFF;
+        let (answer, fields) = advert::read(&bytes);
+        assert_eq!(answer.number(), 0);
+        assert_eq!((fields.group, fields.unit), (byte, byte ^ 0xFF));
+    }
+    let mut bytes = advert();
+    bytes[8..20].fill(0);
+    assert_eq!(advert::read(&bytes).0.number(), 0);
+}
+
+// To C the reader gives the answer number alone; elsewhere also the fields, all zero
+// when refused.
+#[test]
+fn a_refused_advert_has_no_fields() {
+    for (place, byte, number) in [(0, 0, 4), (3, 0x0D, 4), (24, 1, 5), (25, 2, 5), (119, 1, 5)] {
+        let mut bytes = advert();
+        bytes[place] = byte;
+        let (answer, fields) = advert::read(&bytes);
+        assert_eq!(answer.number(), number);
+        assert_eq!(fields, advert::Fields::default());
+    }
+}
+
+// The C writer takes category, group, unit as bytes, power and error as 16 bits, serial and
+// addresses as 32.
+#[test]
+fn the_writer_and_its_refusals() {
+    let good = Wanted {
+        category: 0x0C,
+        product: b"ABCDEFGHIJKL",
+        serial: 0x0102_0304,
+        power: 1,
+        location: &[b'L'; 24],
+        connected: 0x0506_0708,
+        accepted: [0x1011_1213, 0x2021_2223, 0x3031_3233, 0xFFFF_FFFF],
+        error: 1,
+        region: &[0; 24],
+        name: b"N\0\0\0\0\0\0\0\0\0\0\0\0\0\0\0\0\0\0\0\0\0\0\0",
+        group: 0,
+        unit: 255,
+    };
+    let mut area = [0x5A; 123];
+    assert_eq!(advert::write(&mut area, &good).number(), 0);
+    assert_eq!(area[122], 0x5A);
+    assert_eq!(area[..8], *b"DA\x04\x0CSONY");
+    assert_eq!(area[8..26], *b"ABCDEFGHIJKL\x01\x02\x03\x04\0\x01");
+    assert_eq!(area[50..58], hex("05 06 07 08 10 11 12 13"));
+    assert_eq!(area[66..72], hex("FF FF FF FF 00 01"));
+    assert_eq!(area[119..122], [0, 0, 255]);
+    let (answer, fields) = advert::read(&area[..122]);
+    assert_eq!(answer.number(), 0);
+    assert_eq!(fields.serial, good.serial);
+    assert_eq!(fields.accepted, good.accepted);
+
+    let refuse = |size: usize, wanted: Wanted<'_>| {
+        let mut area = vec![0x5A; size];
+        let answer = advert::write(&mut area, &wanted);
+        assert!(area.iter().all(|byte| *byte == 0x5A));
+        answer.number()
+    };
+    let short = Wanted {
+        product: b"ABC",
+        category: 7,
+        power: 2,
+        ..good.clone()
+    };
+    assert_eq!(refuse(121, short.clone()), 1);
+    assert_eq!(refuse(122, short.clone()), 3);
+    let category = Wanted {
+        product: good.product,
+        ..short
+    };
+    assert_eq!(refuse(122, category.clone()), 4);
+    let power = Wanted {
+        category: 0x0B,
+        ..category
+    };
+    assert_eq!(refuse(122, power), 5);
+    let region = Wanted {
+        region: b"\0X\0\0\0\0\0\0\0\0\0\0\0\0\0\0\0\0\0\0\0\0\0\0",
+        ..good.clone()
+    };
+    assert_eq!(refuse(1024, region), 5);
+    let name = Wanted {
+        name: &[b'N'; 25],
+        ..good
+    };
+    assert_eq!(refuse(1024, name), 3);
+}
+
+// `advert` prints the product's bytes as they are; an empty product gives `product ` and the
+// line's end.
+#[test]
+fn the_advert_program_prints_bytes() {
+    let mut bytes = advert();
+    bytes[8..20].fill(0);
+    let printed = advert::printed(&bytes);
+    assert_eq!(printed, b"product \nserial 3106846\ngroup 1\nunit 1\n");
+    bytes[8..20].copy_from_slice(b"\xFF\x0A \x80ABCDEFGH");
+    let printed = advert::printed(&bytes);
+    assert!(printed.starts_with(b"product \xFF\x0A \x80ABCDEFGH\nserial"));
+}
