@@ -6,7 +6,6 @@ use terms::GroupId;
 use terms::UnitId;
 use terms::number_of;
 ghost use mathlib.Core.Path.{_≡_};
-ghost use mathlib.Core.List.{[], _∷_};
 ghost use Rattle.terms.specs.Answers.{numberOf};
 ghost use Rattle.sums.specs.Sums.{sumsToZero};
 ghost use Rattle.sdap.specs.Rules.{readAnswer};

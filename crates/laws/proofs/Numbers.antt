@@ -1,11 +1,11 @@
 -- High-first numbers, both ways and at every width: dividing by 256 ^ n takes the first of n + 1 bytes off.
 use mathlib.Core.Path.{_≡_, refl, sym, ap, _∙_}
 use mathlib.Core.List.{List, [], _∷_}
-use Prim.Native.Nat.{ℕ, zero, suc, _+_, _*_, _/_, _%_, _^_, _<_, _≤_}
+use Prim.Native.Nat.{ℕ, zero, suc, _+_, _*_, _/_, _%_, _^_, _<_}
 use native.Mathlib.Omega.{arith}
-use native.Mathlib.Nat.{pow-succ', pow-zero, mul-assoc, add-mul-div-right, add-comm, mul-add-mod-self-right, mod-eq-of-lt, mod-one, zero-add}
+use native.Mathlib.Nat.{pow-succ', pow-zero, mul-assoc, add-mul-div-right, add-comm, mul-add-mod-self-right, mod-eq-of-lt, mod-one}
 use lib.Arith.{digits-lt, digits-div, mod-mul}
-use lib.ListN.{length, getD}
+use lib.ListN.{length}
 use Rattle.laws.specs.Bytes.{Bytes}
 use Rattle.laws.specs.Numbers.{number, inBytes}
 

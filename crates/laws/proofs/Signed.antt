@@ -1,6 +1,6 @@
 -- A signed number in a range: both bounds are asked in turn, of the number that the bits say.
-use mathlib.Core.Path.{_≡_, refl, sym, ap, _∙_}
-use mathlib.Core.Bool.{Bool, true, false, _&&_}
+use mathlib.Core.Path.{_≡_, sym, ap, _∙_}
+use mathlib.Core.Bool.{true, false, _&&_}
 use lib.IntN.{ℤ}
 use lib.Signed.{leZ}
 

@@ -1,12 +1,12 @@
 -- Boxes that keep or break each rule of document 01's first section, by computation.
-use Prim.Native.Nat.{ℕ, _+_, _*_, _/_}
+use Prim.Native.Nat.{ℕ}
 use mathlib.Core.Path.{_≡_, refl}
 use mathlib.Core.Bool.{true, false}
 use mathlib.Core.List.{List, [], _∷_, _++_}
-use lib.ListN.{length, set, replicate}
+use lib.ListN.{set, replicate}
 use lib.IntN.{pos, negsuc}
-use Rattle.terms.specs.declared.Answer.the-variants.{Done, BadConfiguration}
-use Rattle.panels.specs.Records.{familyW, familyK, startW, startK, zeroPanel, noBox}
+use Rattle.terms.specs.declared.Answer.the-variants.{Done}
+use Rattle.panels.specs.Records.{familyW, familyK, startW, startK, zeroPanel}
 use Rattle.panels.specs.Valid.{okShift, okGain, okBias, okInputs, okBalance, okW, okInput, okK, okIds, zeroIds, okPanel, share, distinct, valid}
 use Rattle.panels.specs.Configure.{freshPanel, askedAt, asked, refusal, configured}
 use Rattle.panels.specs.declared.Panel.{Panel}

@@ -1,13 +1,9 @@
 -- Document 01, "The box and its messages" and "Start values": the records, their codes and their start values.
 use Prim.Native.Nat.{ℕ}
 use mathlib.Core.List.{List, [], _∷_}
-use lib.ListN.{getD, replicate}
-use lib.IntN.{ℤ, pos}
+use lib.ListN.{replicate}
+use lib.IntN.{pos}
 use Rattle.settings.specs.Table.{starts}
-use Rattle.terms.specs.declared.GroupId.{GroupId}
-use Rattle.terms.specs.declared.UnitId.{UnitId}
-use Rattle.panels.specs.declared.Inputs.{Inputs}
-use Rattle.panels.specs.declared.Balance.{Balance}
 use Rattle.panels.specs.declared.WRecord.{WRecord}
 use Rattle.panels.specs.declared.KRecord.{KRecord}
 use Rattle.panels.specs.declared.Panel.{Panel}

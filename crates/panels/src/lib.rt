@@ -9,11 +9,10 @@ use terms::UnitId;
 use terms::same_group;
 use terms::same_unit;
 ghost use mathlib.Core.Path.{_≡_};
-ghost use mathlib.Core.List.{List};
 ghost use Prim.Native.Nat.{_+_, _*_, _<_, _≤_};
 ghost use lib.ListN.{length, take, drop};
 ghost use Rattle.laws.specs.Lists.{every};
-ghost use Rattle.panels.specs.Records.{startW, startK, zeroPanel, noBox};
+ghost use Rattle.panels.specs.Records.{startW, startK, zeroPanel};
 ghost use Rattle.panels.specs.Valid.{okShift, okBias, okInputs, okGain, okBalance, okW, okInput, okK, okIds, zeroIds, okPanel, share, apart, distinct, valid};
 ghost use Rattle.panels.specs.Configure.{asked, freshPanel, refusal, configured};
 

@@ -1,7 +1,7 @@
 -- What an answer of 0 says: every refusal before it did not apply.
 use Prim.Native.Nat.{ℕ, _≤_}
-use mathlib.Core.Path.{_≡_, refl, sym, ap, _∙_}
-use mathlib.Core.Bool.{Bool, true, false, not, _&&_}
+use mathlib.Core.Path.{_≡_, refl, ap, _∙_}
+use mathlib.Core.Bool.{true, not, _&&_}
 use mathlib.Core.List.{List}
 use native.Mathlib.Omega.{arith}
 use lib.ListN.{length}
@@ -10,7 +10,7 @@ use borrow.Author.Tests.{eqb-true, ltb-false, not-false}
 use Rattle.laws.proofs.Conditions.{passed, and-first, and-second}
 use Rattle.terms.specs.Answers.{numberOf}
 use Rattle.terms.specs.declared.Answer.{Answer}
-use Rattle.terms.specs.declared.Answer.the-variants.{Done, AreaTooSmall, WrongLength, NotForUs}
+use Rattle.terms.specs.declared.Answer.the-variants.{AreaTooSmall, WrongLength, NotForUs}
 use Rattle.sdap.specs.declared.Advert.{Advert}
 use Rattle.sdap.specs.Layout.{fieldsOf}
 use Rattle.sdap.specs.Rules.{readAnswer, writeVerdict, writeAnswer, isFront, isSized, Sized, judged}

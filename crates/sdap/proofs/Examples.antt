@@ -1,17 +1,14 @@
 -- Document 000's example, read and written back, and each kind of refusal: all by computation.
 use Prim.Native.Nat.{ℕ}
 use mathlib.Core.Path.{_≡_, refl}
-use mathlib.Core.Bool.{true, cond}
 use mathlib.Core.List.{List, [], _∷_, _++_}
-use lib.Dec.{eqb}
-use lib.ListN.{length, replicate, set, take}
-use Rattle.laws.specs.Bytes.{ascii, sent}
+use lib.ListN.{replicate, set, take}
+use Rattle.laws.specs.Bytes.{ascii}
 use Rattle.laws.specs.Numbers.{number, inBytes}
-use Rattle.terms.specs.Answers.{numberOf}
 use Rattle.terms.specs.declared.Answer.the-variants.{Done, AreaTooSmall, WrongLength, NotForUs, EnvelopeWrong}
 use Rattle.sdap.specs.declared.Advert.{Advert}
 use Rattle.sdap.specs.Layout.{bytesOf, fieldsOf, noFields}
-use Rattle.sdap.specs.Rules.{isText, areTexts, isCategory, isFilled, isFront, isSized, verdict, judged, readAnswer, readOf, writeVerdict, writeAnswer, left, beforeZero}
+use Rattle.sdap.specs.Rules.{isText, areTexts, isCategory, isFilled, isFront, isSized, verdict, readAnswer, readOf, writeVerdict, writeAnswer, left, beforeZero}
 
 -- document 000, "Example"
 example : List ℕ

@@ -1,26 +1,24 @@
 -- Adverts round-trip both ways: each field is laid at the place from which it is read, and numbers round-trip at every width.
-use Prim.Native.Nat.{ℕ, zero, suc, _+_, _^_, _<_, _≤_}
+use Prim.Native.Nat.{ℕ, _+_, _^_, _<_, _≤_}
 use mathlib.Core.Path.{_≡_, refl, sym, ap, _∙_}
-use mathlib.Core.Bool.{Bool, true, false, cond, not, _&&_}
+use mathlib.Core.Bool.{true}
 use mathlib.Core.List.{List, [], _∷_, _++_, append-assoc}
 use native.Mathlib.Omega.{arith}
-use lib.Dec.{eqb, leb, ltb, lit<, lit≤}
+use lib.Dec.{lit≤}
 use lib.ListN.{length, getD, take, drop, length-append}
 use lib.Seq.{take-at, drop-at, drop-drop, take-all, getD-drop}
-use borrow.Author.Tests.{eq-eqb, le-ltb, leb-true, not-false}
+use borrow.Author.Tests.{eq-eqb, le-ltb}
 use Rattle.laws.specs.Bytes.{Bytes, ascii, part, same, sent}
 use Rattle.laws.specs.Numbers.{number, inBytes}
-use Rattle.laws.proofs.Conditions.{and-first, and-second, passed}
-use Rattle.laws.proofs.Lists.{part-from, part-length, part-bytes, part-join, same-is, same-self}
+use Rattle.laws.proofs.Conditions.{and-first, and-second}
+use Rattle.laws.proofs.Lists.{part-from, part-length, part-bytes, part-join, same-is}
 use Rattle.laws.proofs.Numbers.{length-in-bytes, number-in-bytes, in-bytes-number}
 use Rattle.terms.specs.Answers.{numberOf}
 use Rattle.terms.specs.declared.Answer.{Answer}
-use Rattle.terms.specs.declared.Answer.the-variants.{Done, NotForUs, EnvelopeWrong}
 use Rattle.sdap.specs.declared.Advert.{Advert}
-use Rattle.sdap.specs.declared.Read.{Read}
-use Rattle.sdap.specs.Layout.{headOf, addressesOf, tailOf, bytesOf, fieldsOf, noFields}
-use Rattle.sdap.specs.Rules.{isFront, isFilled, isSized, Sized, isCategory, areTexts, verdict, writeVerdict, judged, readAnswer, readOf, given, writeAnswer, left, Written}
-use Rattle.sdap.proofs.Accepted.{Readable, readable, Writable, writable}
+use Rattle.sdap.specs.Layout.{headOf, addressesOf, tailOf, bytesOf, fieldsOf}
+use Rattle.sdap.specs.Rules.{isFront, isSized, Sized, writeVerdict, judged, readAnswer, readOf, writeAnswer, Written}
+use Rattle.sdap.proofs.Accepted.{Readable, readable, writable}
 use Rattle.sdap.proofs.Lengths.{head-length, addresses-length, tail-length}
 
 -- ---- written, then read

@@ -9,7 +9,6 @@ use terms::GroupId;
 use terms::UnitId;
 use terms::number_of;
 ghost use mathlib.Core.Path.{_≡_};
-ghost use mathlib.Core.List.{[], _∷_};
 ghost use Prim.Native.Nat.{_+_, _≤_};
 ghost use lib.ListN.{length};
 ghost use Rattle.laws.specs.Bytes.{over, part, sent};

@@ -1,16 +1,13 @@
 -- `shifts_ok` asks the two shifts in turn.
-use Prim.Native.Nat.{_<_, _^_}
 use mathlib.Core.Path.{_≡_, sym, ap, _∙_}
-use mathlib.Core.Bool.{Bool}
 use lib.ListN.{length, getD}
 use borrow.Author.Tests.{not-true, not-false}
 use borrow.Author.Needs.{needs}
-use lib.IntN.{ℤ, pos}
+use lib.IntN.{pos}
 use mir.Syntax.{w8}
 use mir.Facts.{toZ-ofZ}
 use Rattle.laws.proofs.Lists.{every-two}
 use Rattle.panels.specs.Valid.{okShift}
-use Rattle.panels.specs.Configure.{asked}
 use Rattle.panels.proofs.shifts_ok.Statement.{statement}
 use Rattle.panels.proofs.shifts_ok.Tie as tie
 
