@@ -3,6 +3,7 @@ use mathlib.Core.Path.{_≡_, sym, _∙_}
 use mathlib.Core.Bool.{Bool}
 use mathlib.Core.List.{List, [], _∷_}
 use Prim.Native.Nat.{ℕ}
+use lib.ListN.{getD}
 use Rattle.laws.specs.Bytes.{same}
 use Rattle.laws.specs.Lists.{listed, within}
 use Rattle.laws.specs.Numbers.{number, inBytes}
@@ -31,3 +32,6 @@ bytes2-one = bytes-one 2
 
 pub bytes4-one : (v : ℕ) (r r′ : List ℕ) → r ≡ inBytes 4 v → r′ ≡ inBytes 4 v → r ≡ r′
 bytes4-one = bytes-one 4
+
+pub byte-at-one : (s : List ℕ) (i r r′ : ℕ) → r ≡ getD s i 0 → r′ ≡ getD s i 0 → r ≡ r′
+byte-at-one s i r r′ p q = p ∙ sym q

@@ -1,6 +1,7 @@
 // Leaves that many crates use: two areas compared, numbers listed and bounded, and numbers high byte first.
 ghost use mathlib.Core.Path.{_≡_};
 ghost use mathlib.Core.List.{[], _∷_};
+ghost use lib.ListN.{getD};
 ghost use Rattle.laws.specs.Bytes.{same};
 ghost use Rattle.laws.specs.Lists.{listed, within};
 ghost use Rattle.laws.specs.Numbers.{number, inBytes};
@@ -84,4 +85,14 @@ pub fn are_within(numbers: &[u8], bounds: &[u8]) -> bool
         i += 1;
     }
     true
+}
+
+// The byte at a place, 0 past the end.
+pub fn byte_at(s: &[u8], i: usize) -> u8
+    ensures { λ r. ⌜ r ≡ getD (now (s .entry)) i 0 ⌝ }
+{
+    if i < s.len() {
+        return s[i];
+    }
+    0
 }

@@ -1,0 +1,193 @@
+-- A valid panel stays valid, and an answer that is not 0 leaves it as it was: only orders in their ranges are understood.
+use mathlib.Core.Path.{_≡_, refl}
+use mathlib.Core.Bool.{Bool, true, false, not, cond, _&&_}
+use mathlib.Core.List.{List, []}
+use Prim.Native.Nat.{ℕ, _-_}
+use native.Mathlib.Omega.{arith}
+use lib.ListN.{length, getD}
+use lib.Dec.{eqb, leb, ltb}
+use borrow.Author.Tests.{eqb-true, le-leb, not-false}
+use Rattle.laws.specs.Bytes.{ascii, part, same}
+use Rattle.laws.specs.Lists.{listed}
+use Rattle.laws.proofs.Conditions.{and-first, and-second, and-both}
+use Rattle.laws.proofs.Lists.{part-length}
+use Rattle.terms.specs.declared.Answer.the-variants.{Done, AreaTooSmall, WrongLength, NotForUs}
+use Rattle.panels.specs.Records.{kinds}
+use Rattle.panels.specs.Valid.{okInput, okK}
+use Rattle.panels.specs.declared.KRecord.{KRecord}
+use Rattle.kjw.specs.Decimals.{decimal}
+use Rattle.kjw.specs.Frames.{lettersOf, typeControl, blank, nameOf}
+use Rattle.kjw.specs.Rules.{switchOf, sceneOf, isVolume, isInput, upTo, volumeOrder, inputOrder, toggleOf, controlOf, enquiryOf, isOurs, heardOf, flipped, carried, turnOf, turned, met}
+use Rattle.kjw.specs.declared.State.the-variants.{Power, AudioMute, PictureMute, Volume, Input, Scene}
+use Rattle.kjw.specs.declared.Order.{Order}
+use Rattle.kjw.specs.declared.Order.the-variants.{SetPower, TogglePower, SetAudioMute, SetPictureMute, TogglePictureMute, SetVolume, SetInput, SetScene, Ask}
+use Rattle.kjw.specs.declared.Heard.{Heard}
+use Rattle.kjw.specs.declared.Heard.the-variants.{Refused, Strange, Understood}
+use Rattle.kjw.proofs.Orders.{volume-most, Inputs, input-is, listed-every, port-most}
+
+-- what holds of both sides of a choice holds of what is chosen
+either : {A : Type 0} (f : A → Bool) (b : Bool) (x y : A) → (b ≡ true → f x ≡ true) → (b ≡ false → f y ≡ true) → f (cond b x y) ≡ true
+either f true x y p q = p refl
+either f false x y p q = q refl
+
+-- an order whose numbers are in their ranges
+abbrev inRange : Order → Bool
+inRange (SetPower v) = leb v 1
+inRange TogglePower = true
+inRange (SetAudioMute v) = leb v 1
+inRange (SetPictureMute v) = leb v 1
+inRange TogglePictureMute = true
+inRange (SetVolume v) = leb v 100
+inRange (SetInput kind port) = okInput kind port
+inRange (SetScene v) = leb v 2
+inRange (Ask s) = true
+
+abbrev sound : Heard → Bool
+sound (Refused a) = true
+sound Strange = true
+sound (Understood o) = inRange o
+
+up-to-sound : (most v : ℕ) (o : Order) → (leb v most ≡ true → inRange o ≡ true) → sound (upTo most v o) ≡ true
+unfolding upTo
+up-to-sound most v o h = either sound (leb v most) (Understood o) Strange h (λ e. refl)
+
+volume-sound : (p : List ℕ) → sound (volumeOrder p) ≡ true
+unfolding volumeOrder
+volume-sound p = either sound (isVolume p) (Understood (SetVolume (decimal p))) Strange (λ e. le-leb (decimal p) 100 (volume-most p e)) (λ e. refl)
+
+input-ok : (p : List ℕ) → length p ≡ 16 → Inputs p → okInput (getD p 7 0 - 0x30) (decimal (part 12 4 p)) ≡ true
+unfolding okInput
+input-ok p h i =
+    let port = decimal (part 12 4 p) in
+    let kind : listed kinds (getD p 7 0 - 0x30) ≡ true = listed-every (λ (x : ℕ). listed kinds (x - 0x30)) (ascii "1345") (getD p 7 0) refl (i .kind) in
+    and-both (listed kinds (getD p 7 0 - 0x30) && leb 1 port) (leb port 9999) (and-both (listed kinds (getD p 7 0 - 0x30)) (leb 1 port) kind (le-leb 1 port (i .port))) (le-leb port 9999 (port-most p h i))
+
+input-sound : (p : List ℕ) → length p ≡ 16 → sound (inputOrder p) ≡ true
+unfolding inputOrder
+input-sound p h = either sound (isInput p) (Understood (SetInput (getD p 7 0 - 0x30) (decimal (part 12 4 p)))) Strange (λ e. input-ok p h (input-is p e)) (λ e. refl)
+
+toggle-sound : (l p : List ℕ) → sound (toggleOf l p) ≡ true
+unfolding toggleOf
+toggle-sound l p =
+    either sound (not (same p blank)) Strange _ (λ e. refl)
+    (λ e. either sound (same l (ascii "TPOW")) (Understood TogglePower) _ (λ f. refl)
+    (λ f. either sound (same l (ascii "TPMU")) (Understood TogglePictureMute) Strange (λ g. refl) (λ g. refl)))
+
+control-sound : (l p : List ℕ) → length p ≡ 16 → sound (controlOf l p) ≡ true
+unfolding controlOf
+control-sound l p h =
+    either sound (same l (nameOf Power)) (upTo 1 (switchOf p) (SetPower (switchOf p))) _ (λ e. up-to-sound 1 (switchOf p) (SetPower (switchOf p)) (λ f. f))
+    (λ e. either sound (same l (nameOf AudioMute)) (upTo 1 (switchOf p) (SetAudioMute (switchOf p))) _ (λ e. up-to-sound 1 (switchOf p) (SetAudioMute (switchOf p)) (λ f. f))
+    (λ e. either sound (same l (nameOf PictureMute)) (upTo 1 (switchOf p) (SetPictureMute (switchOf p))) _ (λ e. up-to-sound 1 (switchOf p) (SetPictureMute (switchOf p)) (λ f. f))
+    (λ e. either sound (same l (nameOf Volume)) (volumeOrder p) _ (λ e. volume-sound p)
+    (λ e. either sound (same l (nameOf Input)) (inputOrder p) _ (λ e. input-sound p h)
+    (λ e. either sound (same l (nameOf Scene)) (upTo 2 (sceneOf p) (SetScene (sceneOf p))) _ (λ e. up-to-sound 2 (sceneOf p) (SetScene (sceneOf p)) (λ f. f))
+    (λ e. toggle-sound l p))))))
+
+enquiry-sound : (l p : List ℕ) → sound (enquiryOf l p) ≡ true
+unfolding enquiryOf
+enquiry-sound l p =
+    either sound (not (same p blank)) Strange _ (λ e. refl)
+    (λ e. either sound (same l (nameOf Power)) (Understood (Ask Power)) _ (λ e. refl)
+    (λ e. either sound (same l (nameOf AudioMute)) (Understood (Ask AudioMute)) _ (λ e. refl)
+    (λ e. either sound (same l (nameOf PictureMute)) (Understood (Ask PictureMute)) _ (λ e. refl)
+    (λ e. either sound (same l (nameOf Volume)) (Understood (Ask Volume)) _ (λ e. refl)
+    (λ e. either sound (same l (nameOf Input)) (Understood (Ask Input)) _ (λ e. refl)
+    (λ e. either sound (same l (nameOf Scene)) (Understood (Ask Scene)) Strange (λ e. refl) (λ e. refl)))))))
+
+heard-sound : (m : List ℕ) → sound (heardOf m) ≡ true
+unfolding heardOf
+heard-sound m =
+    either sound (not (eqb (length m) 24)) (Refused WrongLength) _ (λ e. refl)
+    (λ e. let n : length m ≡ 24 = eqb-true (length m) 24 (not-false (eqb (length m) 24) e) in
+    either sound (not (isOurs m)) (Refused NotForUs) _ (λ f. refl)
+    (λ f. either sound (eqb (getD m 2 0) typeControl) (controlOf (lettersOf m) (part 7 16 m)) (enquiryOf (lettersOf m) (part 7 16 m)) (λ g. control-sound (lettersOf m) (part 7 16 m) (part-length 7 16 m (omega arith))) (λ g. enquiry-sound (lettersOf m) (part 7 16 m))))
+
+-- a valid panel, setting by setting
+record Settings (k : KRecord) : Type 0 where
+  powered : leb (k .power) 1 ≡ true
+  sound-muted : leb (k .amut) 1 ≡ true
+  picture-muted : leb (k .pmut) 1 ≡ true
+  loud : leb (k .volume) 100 ≡ true
+  staged : leb (k .scene) 2 ≡ true
+  fed : okInput (k .kind) (k .port) ≡ true
+
+apart : (k : KRecord) → okK k ≡ true → Settings k
+unfolding okK
+apart k e =
+    let p = leb (k .power) 1 in
+    let a = leb (k .amut) 1 in
+    let q = leb (k .pmut) 1 in
+    let v = leb (k .volume) 100 in
+    let s = leb (k .scene) 2 in
+    let i = okInput (k .kind) (k .port) in
+    let e₁ = and-first (p && a && q && v && s) i e in
+    let e₂ = and-first (p && a && q && v) s e₁ in
+    let e₃ = and-first (p && a && q) v e₂ in
+    let e₄ = and-first (p && a) q e₃ in record {
+      powered = and-first p a e₄;
+      sound-muted = and-second p a e₄;
+      picture-muted = and-second (p && a) q e₃;
+      loud = and-second (p && a && q) v e₂;
+      staged = and-second (p && a && q && v) s e₁;
+      fed = and-second (p && a && q && v && s) i e;
+    }
+
+together : (k : KRecord) → Settings k → okK k ≡ true
+unfolding okK
+together k w = rw (w .powered, w .sound-muted, w .picture-muted, w .loud, w .staged, w .fed)
+
+flipped-ok : (v : ℕ) → leb (flipped v) 1 ≡ true
+unfolding flipped
+flipped-ok v = either (λ (x : ℕ). leb x 1) (eqb v 0) 1 0 (λ e. refl) (λ e. refl)
+
+carried-keeps : (o : Order) (k : KRecord) → inRange o ≡ true → Settings k → Settings (carried o k)
+unfolding carried
+carried-keeps (SetPower v) k r w = record { powered = r; sound-muted = w .sound-muted; picture-muted = w .picture-muted; loud = w .loud; staged = w .staged; fed = w .fed }
+carried-keeps TogglePower k r w = record { powered = flipped-ok (k .power); sound-muted = w .sound-muted; picture-muted = w .picture-muted; loud = w .loud; staged = w .staged; fed = w .fed }
+carried-keeps (SetAudioMute v) k r w = record { powered = w .powered; sound-muted = r; picture-muted = w .picture-muted; loud = w .loud; staged = w .staged; fed = w .fed }
+carried-keeps (SetPictureMute v) k r w = record { powered = w .powered; sound-muted = w .sound-muted; picture-muted = r; loud = w .loud; staged = w .staged; fed = w .fed }
+carried-keeps TogglePictureMute k r w = record { powered = w .powered; sound-muted = w .sound-muted; picture-muted = flipped-ok (k .pmut); loud = w .loud; staged = w .staged; fed = w .fed }
+carried-keeps (SetVolume v) k r w = record { powered = w .powered; sound-muted = w .sound-muted; picture-muted = w .picture-muted; loud = r; staged = w .staged; fed = w .fed }
+carried-keeps (SetInput kind port) k r w = record { powered = w .powered; sound-muted = w .sound-muted; picture-muted = w .picture-muted; loud = w .loud; staged = w .staged; fed = r }
+carried-keeps (SetScene v) k r w = record { powered = w .powered; sound-muted = w .sound-muted; picture-muted = w .picture-muted; loud = w .loud; staged = r; fed = w .fed }
+carried-keeps (Ask s) k r w = w
+
+turn-valid : (h : Heard) (k : KRecord) → sound h ≡ true → okK k ≡ true → okK (turnOf k h .k) ≡ true
+unfolding turnOf
+turn-valid (Refused a) k s v = v
+turn-valid Strange k s v = v
+turn-valid (Understood o) k s v = together (carried o k) (carried-keeps o k s (apart k v))
+
+-- a valid panel is valid after every message
+pub turned-valid : (m : List ℕ) (k : KRecord) → okK k ≡ true → okK (turned m k .k) ≡ true
+unfolding turned
+turned-valid m k v = turn-valid (heardOf m) k (heard-sound m) v
+
+turn-unchanged : (h : Heard) (k : KRecord) → (turnOf k h .answer ≡ Done → ⊥) → turnOf k h .k ≡ k
+unfolding turnOf
+turn-unchanged (Refused a) k n = refl
+turn-unchanged Strange k n = refl
+turn-unchanged (Understood o) k n = absurd (n refl)
+
+-- every answer but 0 leaves the panel as it was
+pub turned-unchanged : (m : List ℕ) (k : KRecord) → (turned m k .answer ≡ Done → ⊥) → turned m k .k ≡ k
+unfolding turned
+turned-unchanged m k n = turn-unchanged (heardOf m) k n
+
+-- both at the door, where the area may be too small
+pub met-valid : (room : ℕ) (m : List ℕ) (k : KRecord) → okK k ≡ true → okK (met room m k .k) ≡ true
+unfolding met
+met-valid room m k v = go (ltb room 512)
+  where
+    go : (b : Bool) → okK (cond b (record { k = k; answer = AreaTooSmall; reply = [] }) (turned m k) .k) ≡ true
+    go true = v
+    go false = turned-valid m k v
+
+pub met-unchanged : (room : ℕ) (m : List ℕ) (k : KRecord) → (met room m k .answer ≡ Done → ⊥) → met room m k .k ≡ k
+unfolding met
+met-unchanged room m k = go (ltb room 512)
+  where
+    go : (b : Bool) → (cond b (record { k = k; answer = AreaTooSmall; reply = [] }) (turned m k) .answer ≡ Done → ⊥) → cond b (record { k = k; answer = AreaTooSmall; reply = [] }) (turned m k) .k ≡ k
+    go true n = refl
+    go false n = turned-unchanged m k n

@@ -1,0 +1,43 @@
+-- The lengths of the frame and of its fixed parts, by computation.
+use mathlib.Core.Path.{_≡_, refl}
+use mathlib.Core.Bool.{Bool, true, false, cond}
+use mathlib.Core.List.{List}
+use Prim.Native.Nat.{ℕ}
+use native.Mathlib.Omega.{arith}
+use lib.ListN.{length, length-append}
+use lib.Dec.{eqb}
+use Rattle.panels.specs.declared.KRecord.{KRecord}
+use Rattle.kjw.specs.Decimals.{inDigits}
+use Rattle.kjw.specs.Frames.{frameOf, nameOf, off, on, auto, autoSync, general, switchWord, sceneWord, inputWord, valueOf}
+use Rattle.kjw.specs.declared.State.{State}
+use Rattle.kjw.specs.declared.State.the-variants.{Power, AudioMute, PictureMute, Volume, Input, Scene}
+
+pub frame-length : (t : ℕ) (l p : List ℕ) → length l ≡ 4 → length p ≡ 16 → length (frameOf t l p) ≡ 24
+unfolding frameOf
+frame-length t l p e f = simp length-append (omega arith)
+
+pub name-length : (s : State) → length (nameOf s) ≡ 4
+unfolding nameOf
+name-length Power = refl
+name-length AudioMute = refl
+name-length PictureMute = refl
+name-length Volume = refl
+name-length Input = refl
+name-length Scene = refl
+
+cond-length : (b : Bool) (x y : List ℕ) → length x ≡ 16 → length y ≡ 16 → length (cond b x y) ≡ 16
+cond-length true x y e f = e
+cond-length false x y e f = f
+
+switch-length : (v : ℕ) → length (switchWord v) ≡ 16
+unfolding switchWord
+switch-length v = cond-length (eqb v 0) off on refl refl
+
+pub value-length : (s : State) (k : KRecord) → length (valueOf s k) ≡ 16
+unfolding valueOf sceneWord inputWord inDigits
+value-length Power k = switch-length (k .power)
+value-length AudioMute k = switch-length (k .amut)
+value-length PictureMute k = switch-length (k .pmut)
+value-length Volume k = refl
+value-length Input k = refl
+value-length Scene k = cond-length (eqb (k .scene) 0) auto (cond (eqb (k .scene) 1) autoSync general) refl (cond-length (eqb (k .scene) 1) autoSync general refl refl)

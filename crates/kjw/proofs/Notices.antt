@@ -1,0 +1,104 @@
+-- A notice is sent only where a value changed: the reply compares the value before with the value after.
+use mathlib.Core.Path.{_≡_, refl, sym, ap, _∙_}
+use mathlib.Core.Bool.{Bool, true, false, cond}
+use mathlib.Core.List.{List, [], _∷_}
+use Prim.Native.Nat.{ℕ}
+use native.Mathlib.Omega.{arith}
+use lib.ListN.{length, length-append}
+use Rattle.laws.specs.Bytes.{same}
+use Rattle.laws.specs.Lists.{listed}
+use Rattle.laws.proofs.Conditions.{false-true}
+use Rattle.laws.proofs.Lists.{same-self, same-is}
+use Rattle.panels.specs.declared.KRecord.{KRecord}
+use Rattle.kjw.specs.Frames.{frameOf, typeAnswer, typeNotice, lettersOf, accepted, rejected, nameOf, valueOf}
+use Rattle.kjw.specs.Rules.{heardOf, carried, noticed, replyOf, turnOf, bytesOf, turned}
+use Rattle.kjw.specs.declared.State.{State}
+use Rattle.kjw.specs.declared.State.the-variants.{Power, AudioMute, PictureMute, Volume, Input}
+use Rattle.kjw.specs.declared.Order.{Order}
+use Rattle.kjw.specs.declared.Order.the-variants.{SetPower, TogglePower, SetAudioMute, SetPictureMute, TogglePictureMute, SetVolume, SetInput, SetScene, Ask}
+use Rattle.kjw.specs.declared.Heard.{Heard}
+use Rattle.kjw.specs.declared.Heard.the-variants.{Refused, Strange, Understood}
+use Rattle.kjw.specs.declared.Reply.{Reply}
+use Rattle.kjw.specs.declared.Reply.the-variants.{Silent, Rejected, Accepted, Changed, Told}
+use Rattle.kjw.proofs.Lengths.{frame-length, name-length, value-length}
+
+-- how many bytes a reply has
+abbrev lengthOf : Reply → ℕ
+lengthOf Silent = 0
+lengthOf Rejected = 24
+lengthOf Accepted = 24
+lengthOf (Changed s) = 48
+lengthOf (Told s) = 24
+
+bytes-length : (r : Reply) (k : KRecord) (l : List ℕ) → length l ≡ 4 → length (bytesOf r k l) ≡ lengthOf r
+unfolding bytesOf
+bytes-length Silent k l e = refl
+bytes-length Rejected k l e = frame-length typeAnswer l rejected e refl
+bytes-length Accepted k l e = frame-length typeAnswer l accepted e refl
+bytes-length (Changed s) k l e = length-append (frameOf typeAnswer l accepted) (frameOf typeNotice (nameOf s) (valueOf s k)) ∙ rw (frame-length typeAnswer l accepted e refl, frame-length typeNotice (nameOf s) (valueOf s k) (name-length s) (value-length s k))
+bytes-length (Told s) k l e = frame-length typeAnswer l (valueOf s k) e (value-length s k)
+
+turned-length : (m : List ℕ) (k : KRecord) → length (turned m k .reply) ≡ lengthOf (turnOf k (heardOf m) .reply)
+unfolding turned lettersOf
+turned-length m k = bytes-length (turnOf k (heardOf m) .reply) (turnOf k (heardOf m) .k) (lettersOf m) refl
+
+-- nothing, an answer, or an answer and a notice
+pub reply-length : (m : List ℕ) (k : KRecord) → listed (0 ∷ 24 ∷ 48 ∷ []) (length (turned m k .reply)) ≡ true
+reply-length m k = ap (listed (0 ∷ 24 ∷ 48 ∷ [])) (turned-length m k) ∙ one-of (turnOf k (heardOf m) .reply)
+  where
+    one-of : (r : Reply) → listed (0 ∷ 24 ∷ 48 ∷ []) (lengthOf r) ≡ true
+    one-of Silent = refl
+    one-of Rejected = refl
+    one-of Accepted = refl
+    one-of (Changed s) = refl
+    one-of (Told s) = refl
+
+-- a reply of 48 bytes tells a state whose value is not what it was
+pub record Notice (k k′ : KRecord) : Type 0 where
+  pub state : State
+  pub changed : valueOf state k ≡ valueOf state k′ → ⊥
+
+noticed-changed : (s : State) (k k′ : KRecord) → lengthOf (noticed s k k′) ≡ 48 → Notice k k′
+unfolding noticed
+noticed-changed s k k′ = go (same (valueOf s k) (valueOf s k′)) refl
+  where
+    go : (b : Bool) → same (valueOf s k) (valueOf s k′) ≡ b → lengthOf (cond b Accepted (Changed s)) ≡ 48 → Notice k k′
+    go true t e = absurd (omega arith)
+    go false t e = record { state = s; changed = λ q. false-true (sym t ∙ ap (λ (v : List ℕ). same v (valueOf s k′)) q ∙ same-self (valueOf s k′)) }
+
+-- and where it changed there is one
+pub noticed-told : (s : State) (k k′ : KRecord) → (valueOf s k ≡ valueOf s k′ → ⊥) → noticed s k k′ ≡ Changed s
+unfolding noticed
+noticed-told s k k′ n = go (same (valueOf s k) (valueOf s k′)) refl
+  where
+    go : (b : Bool) → same (valueOf s k) (valueOf s k′) ≡ b → cond b Accepted (Changed s) ≡ Changed s
+    go true t = absurd (n (same-is (valueOf s k) (valueOf s k′) t))
+    go false t = refl
+
+reply-changed : (o : Order) (k k′ : KRecord) → lengthOf (replyOf o k k′) ≡ 48 → Notice k k′
+unfolding replyOf
+reply-changed (SetPower v) k k′ e = noticed-changed Power k k′ e
+reply-changed TogglePower k k′ e = noticed-changed Power k k′ e
+reply-changed (SetAudioMute v) k k′ e = noticed-changed AudioMute k k′ e
+reply-changed (SetPictureMute v) k k′ e = noticed-changed PictureMute k k′ e
+reply-changed TogglePictureMute k k′ e = noticed-changed PictureMute k k′ e
+reply-changed (SetVolume v) k k′ e = noticed-changed Volume k k′ e
+reply-changed (SetInput kind port) k k′ e = noticed-changed Input k k′ e
+reply-changed (SetScene v) k k′ e = absurd (omega arith)
+reply-changed (Ask s) k k′ e = absurd (omega arith)
+
+turn-changed : (h : Heard) (k : KRecord) → lengthOf (turnOf k h .reply) ≡ 48 → Notice k (turnOf k h .k)
+unfolding turnOf
+turn-changed (Refused a) k e = absurd (omega arith)
+turn-changed Strange k e = absurd (omega arith)
+turn-changed (Understood o) k e = reply-changed o k (carried o k) e
+
+pub notice-changed : (m : List ℕ) (k : KRecord) → length (turned m k .reply) ≡ 48 → Notice k (turned m k .k)
+unfolding turned
+notice-changed m k e = turn-changed (heardOf m) k (sym (turned-length m k) ∙ e)
+
+-- so a panel that stays as it was has no notice
+pub unchanged-silent : (m : List ℕ) (k : KRecord) → turned m k .k ≡ k → length (turned m k .reply) ≡ 48 → ⊥
+unchanged-silent m k q e =
+    let n = notice-changed m k e in
+    n .changed (ap (valueOf (n .state)) (sym q))

@@ -1,0 +1,45 @@
+-- `turn_of` does in each case what the definition says.
+use borrow.Author.Needs.{needs}
+use Rattle.kjw.specs.Rules.{turnOf}
+use Rattle.kjw.proofs.turn_of.Statement.{statement}
+use Rattle.kjw.proofs.turn_of.Tie as tie
+
+enum-known-h : tie.Need-enum-known-h
+enum-known-h c = search needs
+
+enum-told : tie.Need-enum-told
+enum-told c = search needs
+
+enum-known-h-2 : tie.Need-enum-known-h-2
+enum-known-h-2 c = search needs
+
+obey-requires : tie.Need-obey-requires
+obey-requires c κs = search needs
+
+reply-of-requires : tie.Need-reply-of-requires
+reply-of-requires c κs = search needs
+
+returns : tie.Need-returns
+unfolding turnOf
+returns c = rw (c .before .h .given .1)
+
+returns-2 : tie.Need-returns-2
+unfolding turnOf
+returns-2 c = rw (c .enum-told .given .1)
+
+returns-3 : tie.Need-returns-3
+unfolding turnOf
+returns-3 c = rw (c .before .before .before .h2 .given .1, c .reply-of .ensures, c .before .obey .ensures)
+
+pub turn-of-spec : {M : Type 1} → statement M
+turn-of-spec =
+    tie.close
+    (tie.spec
+    enum-known-h
+    enum-told
+    enum-known-h-2
+    obey-requires
+    reply-of-requires
+    returns
+    returns-2
+    returns-3)

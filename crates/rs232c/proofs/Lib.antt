@@ -1,0 +1,5 @@
+mod Decode
+pub mod Determined
+mod Examples
+mod Signed
+pub mod Told

@@ -1,0 +1,43 @@
+-- Every answer but 0 leaves the record, and byte counts 0, 1 and 2 never pass: by the cases of what a message asks.
+use mathlib.Core.Path.{_≡_, refl}
+use mathlib.Core.Bool.{Bool, true, false, cond}
+use mathlib.Core.List.{List}
+use Prim.Native.Nat.{ℕ, _+_, _<_, _≤_}
+use native.Mathlib.Omega.{arith}
+use lib.Dec.{ltb}
+use lib.ListN.{length, getD}
+use borrow.Author.Tests.{le-ltb, ne-eqb}
+use Rattle.terms.specs.Answers.{numberOf}
+use Rattle.terms.specs.declared.Answer.the-variants.{AreaTooSmall}
+use Rattle.panels.specs.declared.WRecord.{WRecord}
+use Rattle.rs232c.specs.Frames.{isForeign, isBroken, heardOf, valuesOf}
+use Rattle.rs232c.specs.Replies.{Turn, turned, turnOf, told}
+use Rattle.rs232c.specs.declared.Heard.{Heard}
+use Rattle.rs232c.specs.declared.Heard.the-variants.{Refused, Broken, Strange, Understood}
+use Rattle.rs232c.specs.declared.Reply.the-variants.{Silent}
+
+turn-leaves : (h : Heard) (vs : List ℕ) (w : WRecord) → (numberOf (turned h vs w .answer) ≡ 0 → ⊥) → turned h vs w .after ≡ w
+unfolding turned
+turn-leaves (Refused a) vs w n = refl
+turn-leaves (Broken s) vs w n = refl
+turn-leaves (Strange s) vs w n = refl
+turn-leaves (Understood s o) vs w n = absurd (n refl)
+
+-- every answer but 0 leaves the record as it was
+pub refusal-leaves : (room : ℕ) (m : List ℕ) (w : WRecord) → (numberOf (told room m w .answer) ≡ 0 → ⊥) → told room m w .after ≡ w
+unfolding told
+refusal-leaves room m w n = go (ltb room 512) n
+  where
+    small : Turn
+    small = record { after = w; answer = AreaTooSmall; reply = Silent }
+
+    go : (b : Bool) → (numberOf (cond b small (turnOf m w) .answer) ≡ 0 → ⊥) → cond b small (turnOf m w) .after ≡ w
+    go true n = refl
+    go false n = turn-leaves (heardOf m) (valuesOf m) w n
+
+-- "So counts 0, 1 and 2 never pass."
+pub small-counts-broken : (m : List ℕ) → 6 ≤ length m → isForeign m ≡ false → getD m 1 0 < 3 → heardOf m ≡ Broken (getD m 3 0)
+unfolding heardOf isBroken
+small-counts-broken m h f k =
+    let n : getD m 1 0 + 3 ≡ length m → ⊥ = λ e. omega arith in
+    rw (le-ltb (length m) 6 h, f, ne-eqb (getD m 1 0 + 3) (length m) n)
