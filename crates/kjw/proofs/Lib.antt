@@ -1,5 +1,6 @@
 mod Decimals
 pub mod Determined
+pub mod Door
 mod Examples
 pub mod Kept
 mod Lengths

@@ -8,13 +8,13 @@ use lib.Dec.{ltb}
 use lib.ListN.{length, getD}
 use borrow.Author.Tests.{le-ltb, ne-eqb}
 use Rattle.terms.specs.Answers.{numberOf}
-use Rattle.terms.specs.declared.Answer.the-variants.{AreaTooSmall}
+use Rattle.terms.specs.declared.Answer.the-variants.{AreaTooSmall, EnvelopeWrong}
 use Rattle.panels.specs.declared.WRecord.{WRecord}
 use Rattle.rs232c.specs.Frames.{isForeign, isBroken, heardOf, valuesOf}
 use Rattle.rs232c.specs.Replies.{Turn, turned, turnOf, told}
 use Rattle.rs232c.specs.declared.Heard.{Heard}
 use Rattle.rs232c.specs.declared.Heard.the-variants.{Refused, Broken, Strange, Understood}
-use Rattle.rs232c.specs.declared.Reply.the-variants.{Silent}
+use Rattle.rs232c.specs.declared.Reply.the-variants.{Silent, Nak}
 
 turn-leaves : (h : Heard) (vs : List ℕ) (w : WRecord) → (numberOf (turned h vs w .answer) ≡ 0 → ⊥) → turned h vs w .after ≡ w
 unfolding turned
@@ -41,3 +41,8 @@ unfolding heardOf isBroken
 small-counts-broken m h f k =
     let n : getD m 1 0 + 3 ≡ length m → ⊥ = λ e. omega arith in
     rw (le-ltb (length m) 6 h, f, ne-eqb (getD m 1 0 + 3) (length m) n)
+
+-- the same at the door, with room for a reply: the record is left, the answer is 5 and NAK goes to the source
+pub small-counts-told : (room : ℕ) (m : List ℕ) (w : WRecord) → 512 ≤ room → 6 ≤ length m → isForeign m ≡ false → getD m 1 0 < 3 → told room m w ≡ record { after = w; answer = EnvelopeWrong; reply = Nak (getD m 3 0) }
+unfolding told turned
+small-counts-told room m w r h f k = rw (le-ltb room 512 r, small-counts-broken m h f k)
