@@ -4,3 +4,4 @@ pub mod Lists
 pub mod Numbers
 pub mod Signed
 pub mod Table
+pub mod Texts

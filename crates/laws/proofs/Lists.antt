@@ -2,13 +2,13 @@
 use mathlib.Core.Path.{_≡_, refl, sym, ap, _∙_}
 use mathlib.Core.Bool.{Bool, true, false, _&&_, _||_, and-true}
 use mathlib.Core.List.{List, [], _∷_, _++_}
-use Prim.Native.Nat.{ℕ, zero, suc, _+_, _<_, _≤_}
+use Prim.Native.Nat.{ℕ, zero, suc, _+_, _-_, _<_, _≤_}
 use native.Mathlib.Omega.{arith}
 use native.Mathlib.Nat.{add-zero}
 use native.Mathlib.Numerals.{add-one}
 use lib.Dec.{eqb, leb, lit<}
 use lib.ListN.{length, getD, take, drop, drop-of-length-le, length-drop}
-use lib.Seq.{drop-cons, drop-drop, take-add, getD-drop, getD-take, length-take-le}
+use lib.Seq.{drop-cons, drop-drop, take-add, take-all, getD-drop, getD-take, length-take-le}
 use borrow.Author.Tests.{eqb-true, eq-eqb}
 use Rattle.laws.specs.Bytes.{Bytes, part, same}
 use Rattle.laws.specs.Lists.{every, listed, within, places}
@@ -63,6 +63,10 @@ same-from l m i h k = rw (from l i 0 h, from m i 0 k)
 -- a part is the byte at its place and the part behind it
 pub part-from : (n m k : ℕ) (l : List ℕ) → n < length l → n + 1 ≡ m → part n (suc k) l ≡ getD l n 0 ∷ part m k l
 part-from n m k l h e = ap (take (suc k)) (from l n 0 h) ∙ ap (λ (j : ℕ). getD l n 0 ∷ part j k l) e
+
+-- the part from place n to the end is all that stands behind n
+pub rest : {A : Type 0} (l : List A) (n : ℕ) → take (length l - n) (drop n l) ≡ drop n l
+rest l n = take-all (length l - n) (drop n l) (simp length-drop (omega arith))
 
 -- a part that lies in the list has its length
 pub part-length : (n k : ℕ) (l : List ℕ) → n + k ≤ length l → length (part n k l) ≡ k

@@ -35,3 +35,9 @@ same [] [] = true
 same [] (y ∷ t) = false
 same (x ∷ s) [] = false
 same (x ∷ s) (y ∷ t) = eqb x y && same s t
+
+-- whether s begins with p
+abbrev pub begins : List ℕ → List ℕ → Bool
+begins [] s = true
+begins (x ∷ p) [] = false
+begins (x ∷ p) (y ∷ s) = eqb x y && begins p s

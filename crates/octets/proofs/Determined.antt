@@ -4,7 +4,7 @@ use mathlib.Core.Bool.{Bool}
 use mathlib.Core.List.{List, [], _∷_}
 use Prim.Native.Nat.{ℕ}
 use lib.ListN.{getD}
-use Rattle.laws.specs.Bytes.{same}
+use Rattle.laws.specs.Bytes.{same, begins}
 use Rattle.laws.specs.Lists.{listed, within}
 use Rattle.laws.specs.Numbers.{number, inBytes}
 
@@ -35,3 +35,6 @@ bytes4-one = bytes-one 4
 
 pub byte-at-one : (s : List ℕ) (i r r′ : ℕ) → r ≡ getD s i 0 → r′ ≡ getD s i 0 → r ≡ r′
 byte-at-one s i r r′ p q = p ∙ sym q
+
+pub begins-with-one : (s front : List ℕ) (r r′ : Bool) → r ≡ begins front s → r′ ≡ begins front s → r ≡ r′
+begins-with-one s front r r′ p q = p ∙ sym q

@@ -2,7 +2,7 @@
 ghost use mathlib.Core.Path.{_≡_};
 ghost use mathlib.Core.List.{[], _∷_};
 ghost use lib.ListN.{getD};
-ghost use Rattle.laws.specs.Bytes.{same};
+ghost use Rattle.laws.specs.Bytes.{same, begins};
 ghost use Rattle.laws.specs.Lists.{listed, within};
 ghost use Rattle.laws.specs.Numbers.{number, inBytes};
 
@@ -95,4 +95,15 @@ pub fn byte_at(s: &[u8], i: usize) -> u8
         return s[i];
     }
     0
+}
+
+// Whether an area begins with the bytes given.
+pub fn begins_with(s: &[u8], front: &[u8]) -> bool
+    ensures { λ r. ⌜ r ≡ begins (now (front .entry)) (now (s .entry)) ⌝ }
+{
+    let n = front.len();
+    if s.len() < n {
+        return false;
+    }
+    same_bytes(front, &s[..n])
 }

@@ -9,17 +9,14 @@ use lib.Signed.{leZ}
 use mir.Syntax.{w16}
 use mir.Val.{toZ, ofZ, SFits}
 use mir.Facts.{toZ-pos, toZ-ofZ}
+use Rattle.laws.proofs.Signed.{zero-less}
 use Rattle.rs232c.specs.Orders.{biasOf}
-
-below : (n : ℕ) → 0 < n → pos 0 -ℤ pos n ≡ negsuc (n - 1)
-below zero h = absurd (omega arith)
-below (suc n) h = +ℤ-idl (negsuc n) ∙ ap negsuc (omega arith)
 
 pub wide : (n : ℕ) → n ≤ 32767 → toZ w16 n ≡ pos n
 wide n h = toZ-pos w16 (omega arith)
 
 pub minus : (n : ℕ) → 0 < n → n ≤ 32767 → pos 0 -ℤ toZ w16 n ≡ negsuc (n - 1)
-minus n h k = ap (λ (z : ℤ). pos 0 -ℤ z) (wide n k) ∙ below n h
+minus n h k = ap (λ (z : ℤ). pos 0 -ℤ z) (wide n k) ∙ zero-less n h
 
 pub minus-fits : (n : ℕ) → 0 < n → n ≤ 32767 → SFits w16 (pos 0 -ℤ toZ w16 n)
 minus-fits n h k =

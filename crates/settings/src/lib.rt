@@ -1,7 +1,6 @@
-// The one table of settings: the rows of specs/Table.antt, as numbers that code can read.
+// The one table of settings: the columns of numbers of specs/Table.antt, as code can read them.
 ghost use mathlib.Core.Path.{_≡_};
-ghost use lib.ListN.{length, getD};
-ghost use Rattle.settings.specs.Table.{mosts, starts, nameOf};
+ghost use Rattle.settings.specs.Table.{mosts, starts};
 
 // Each setting's greatest value, in the order of the table.
 const MOST: [u8; 21] = [
@@ -53,54 +52,6 @@ const START: [u8; 21] = [
     0, // FLIPHV
 ];
 
-// Each setting's name, in a row of 12 places.
-const NAMES: [u8; 252] = *b"PHASE_______\
-    CHROMA______\
-    VOLUME______\
-    MODE________\
-    NTSC________\
-    RGB RANGE___\
-    REMOTE______\
-    POWERSAVING_\
-    KEYINHIBIT__\
-    TALLYGREEN__\
-    TALLYRED____\
-    HVDELAY_____\
-    BLUEONLY____\
-    MONOCHR_____\
-    CAMERA FOCUS\
-    LED_________\
-    SCREENSAVER_\
-    SILENTMODE__\
-    FLIPH_______\
-    FLIPV_______\
-    FLIPHV______";
-
-// Each name's length.
-const LENGTHS: [usize; 21] = [
-    5, // PHASE
-    6, // CHROMA
-    6, // VOLUME
-    4, // MODE
-    4, // NTSC
-    9, // RGB RANGE
-    6, // REMOTE
-    11, // POWERSAVING
-    10, // KEYINHIBIT
-    10, // TALLYGREEN
-    8, // TALLYRED
-    7, // HVDELAY
-    8, // BLUEONLY
-    7, // MONOCHR
-    12, // CAMERA FOCUS
-    3, // LED
-    11, // SCREENSAVER
-    10, // SILENTMODE
-    5, // FLIPH
-    5, // FLIPV
-    6, // FLIPHV
-];
-
 // The greatest value of each setting.
 pub fn most_values() -> [u8; 21]
     ensures { λ r. ⌜ r ≡ mosts ⌝ }
@@ -113,24 +64,4 @@ pub fn start_values() -> [u8; 21]
     ensures { λ r. ⌜ r ≡ starts ⌝ }
 {
     START
-}
-
-// The length of setting k's name; 0 where there is no such setting.
-pub fn name_length(k: usize) -> usize
-    ensures { λ r. ⌜ r ≡ length (nameOf k) ⌝ }
-{
-    if k < 21 {
-        return LENGTHS[k];
-    }
-    0
-}
-
-// Byte j of setting k's name; 0 past its end.
-pub fn name_byte(k: usize, j: usize) -> u8
-    ensures { λ r. ⌜ r ≡ getD (nameOf k) j 0 ⌝ }
-{
-    if j < name_length(k) {
-        return NAMES[k * 12 + j];
-    }
-    0
 }

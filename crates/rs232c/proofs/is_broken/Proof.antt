@@ -8,13 +8,11 @@ use lib.Seq.{take-all}
 use borrow.Author.Tests.{eq-eqb, ne-eqb}
 use borrow.Author.Needs.{needs}
 use native.Mathlib.Omega.{arith}
+use Rattle.laws.proofs.Lists.{rest}
 use Rattle.rs232c.specs.Frames.{isBroken}
 use Rattle.sums.specs.Sums.{sumsToZero}
 use Rattle.rs232c.proofs.is_broken.Statement.{statement}
 use Rattle.rs232c.proofs.is_broken.Tie as tie
-
-behind-first : (m : List ℕ) → take (length m - 1) (drop 1 m) ≡ drop 1 m
-behind-first m = take-all (length m - 1) (drop 1 m) (simp length-drop (omega arith))
 
 byte-at-requires : tie.Need-byte-at-requires
 byte-at-requires c κs = search needs
@@ -45,14 +43,14 @@ returns-2 : tie.Need-returns-2
 unfolding isBroken
 returns-2 c =
     let m = c .before .before .before .before .before .before .args .m .now in
-    let s : sumsToZero (drop 1 m) ≡ true = ap sumsToZero (sym (behind-first m)) ∙ sym (c .before .sums-to-zero .ensures) ∙ c .if2 .taken in
+    let s : sumsToZero (drop 1 m) ≡ true = ap sumsToZero (sym (rest m 1)) ∙ sym (c .before .sums-to-zero .ensures) ∙ c .if2 .taken in
     sym (rw (← c .before .before .before .before .byte-at .ensures, eq-eqb _ _ (c .before .before .before .if1 .left), s))
 
 returns-3 : tie.Need-returns-3
 unfolding isBroken
 returns-3 c =
     let m = c .before .before .before .before .before .before .args .m .now in
-    let s : sumsToZero (drop 1 m) ≡ false = ap sumsToZero (sym (behind-first m)) ∙ sym (c .before .sums-to-zero .ensures) ∙ c .if2 .left in
+    let s : sumsToZero (drop 1 m) ≡ false = ap sumsToZero (sym (rest m 1)) ∙ sym (c .before .sums-to-zero .ensures) ∙ c .if2 .left in
     sym (rw (← c .before .before .before .before .byte-at .ensures, eq-eqb _ _ (c .before .before .before .if1 .left), s))
 
 pub is-broken-spec : {M : Type 1} → statement M

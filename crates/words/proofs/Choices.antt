@@ -1,0 +1,48 @@
+-- What is found is a name or a word: of 23 names, and of at most three words.
+use Prim.Native.Nat.{ℕ, _<_, _≤_}
+use mathlib.Core.Path.{_≡_, refl, sym, ap}
+use mathlib.Core.Bool.{Bool, true, false}
+use mathlib.Core.List.{List, [], map}
+use native.Mathlib.Omega.{arith}
+use lib.Dec.{ltb, leb, leb→le}
+use lib.ListN.{length, List·getD-eq-default}
+use borrow.Author.Tests.{ltb-true, ltb-false}
+use Rattle.laws.specs.Bytes.{same, begins}
+use Rattle.laws.proofs.Table.{below}
+use Rattle.settings.specs.Table.{Setting, table}
+use Rattle.words.specs.Names.{leadOf, wordsOf, wordOf, firstOf, ledBy, chosenBy}
+use Rattle.words.specs.declared.Found.{Found}
+use Rattle.words.specs.declared.Found.the-variants.{At, Nothing}
+use Rattle.words.proofs.Search.{Right, first-right}
+
+fewWords : ℕ → Bool
+fewWords k = leb (length (wordsOf k)) 3
+
+-- behind the table there are no words
+pub no-words : (k : ℕ) → 21 ≤ k → length (wordsOf k) ≡ 0
+no-words k h = ap length (List·getD-eq-default (map (λ (s : Setting). s .words) table) [] h)
+
+pub few-words : (k : ℕ) → length (wordsOf k) ≤ 3
+unfolding fewWords
+few-words k = go (ltb k 21) refl
+  where
+    go : (b : Bool) → ltb k 21 ≡ b → length (wordsOf k) ≤ 3
+    go true e = leb→le _ _ (below 21 fewWords tt k (ltb-true k 21 e))
+    go false e = let z = no-words k (ltb-false k 21 e) in omega (arith, z)
+
+abbrev pub Small : Found → Type 0
+Small (At v) = v < 3
+Small Nothing = Unit {0}
+
+pub chosen-small : (k : ℕ) (s : List ℕ) → Small (chosenBy k s)
+unfolding chosenBy
+chosen-small k s = go (chosenBy k s) (first-right (length (wordsOf k)) (λ (v : ℕ). same (wordOf k v) s))
+  where
+    go : (x : Found) → Right (λ (v : ℕ). same (wordOf k v) s) (length (wordsOf k)) x → Small x
+    go (At v) r = let h = r .small in let f = few-words k in omega arith
+    go Nothing r = tt
+
+-- the name that leads s begins it
+pub led-right : (s : List ℕ) → Right (λ (k : ℕ). begins (leadOf k) s) 23 (ledBy s)
+unfolding ledBy
+led-right s = first-right 23 (λ (k : ℕ). begins (leadOf k) s)

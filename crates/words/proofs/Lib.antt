@@ -1,0 +1,4 @@
+pub mod Choices
+pub mod Determined
+mod Rules
+pub mod Search

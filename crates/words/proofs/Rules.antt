@@ -1,0 +1,127 @@
+-- The rules of the rows of texts, each from one test computed over all rows.
+use Prim.Native.Nat.{ℕ, zero, suc, _+_, _-_, _*_, _<_, _≤_}
+use mathlib.Core.Path.{_≡_, refl, sym, ap, _∙_}
+use mathlib.Core.Bool.{Bool, true, false, cond, _&&_}
+use mathlib.Core.List.{List, [], _∷_, _++_, map}
+use native.Mathlib.Omega.{arith}
+use native.Mathlib.Nat.{add-zero, add-assoc}
+use lib.Dec.{T, eqb, leb, eqb→eq, leb→le}
+use lib.ListN.{length, getD, take, replicate, List·getD-map}
+use Rattle.laws.specs.Bytes.{same}
+use Rattle.laws.specs.Lists.{everyBelow}
+use Rattle.laws.proofs.Lists.{same-is}
+use Rattle.laws.proofs.Table.{below}
+use Rattle.words.specs.Names.{names, leads, nameOf, leadOf, wordsOf, wordOf, firstOf}
+use Rattle.words.specs.Rows.{values, textOf, bareOf}
+use Rattle.words.specs.declared.Found.{Found}
+use Rattle.words.specs.declared.Found.the-variants.{At, Nothing}
+
+-- the texts in rows of 13 places, as the code holds them
+abbrev pub laid : List (List ℕ) → List ℕ
+laid [] = []
+laid (t ∷ ts) = t ++ (replicate (13 - length t) 95 ++ laid ts)
+
+abbrev pub rows : List ℕ
+rows = laid (leads ++ values)
+
+sure : (b : Bool) → T b → b ≡ true
+sure true t = refl
+sure false t = absurd t
+
+short : ℕ → Bool
+short row = leb (length (textOf row)) 13
+
+pub text-short : (row : ℕ) → row < 32 → length (textOf row) ≤ 13
+unfolding short
+text-short row h = leb→le _ _ (below 32 short tt row h)
+
+right : ℕ → ℕ → Bool
+right row j = eqb (getD rows (row * 13 + j) 0) (getD (textOf row) j 0)
+
+allRight : ℕ → Bool
+allRight row = everyBelow (length (textOf row)) (right row)
+
+pub byte-is : (row j : ℕ) → row < 32 → j < length (textOf row) → getD rows (row * 13 + j) 0 ≡ getD (textOf row) j 0
+unfolding right allRight
+byte-is row j h l = eqb→eq _ _ (below (length (textOf row)) (right row) (below 32 allRight tt row h) j l)
+
+-- the lengths of the rows' texts and bare texts
+abbrev pub lengths : List ℕ
+lengths = map length (leads ++ values)
+
+abbrev pub bares : List ℕ
+bares = map length (names ++ values)
+
+leadLength : ℕ → Bool
+leadLength k = eqb (getD lengths k 0) (length (leadOf k))
+
+pub lead-length-is : (k : ℕ) → k < 23 → getD lengths k 0 ≡ length (leadOf k)
+unfolding leadLength
+lead-length-is k h = eqb→eq _ _ (below 23 leadLength tt k h)
+
+pub text-length : (row : ℕ) → getD lengths row 0 ≡ length (textOf row)
+text-length row = List·getD-map length (leads ++ values) row []
+
+pub bare-length : (row : ℕ) → getD bares row 0 ≡ length (bareOf row)
+bare-length row = List·getD-map length (names ++ values) row []
+
+-- a row's bare text is its front
+bareFront : ℕ → Bool
+bareFront row = same (take (length (bareOf row)) (textOf row)) (bareOf row)
+
+pub bare-front : (row : ℕ) → row < 32 → take (length (bareOf row)) (textOf row) ≡ bareOf row
+unfolding bareFront
+bare-front row h = same-is _ _ (sure _ (below 32 bareFront tt row h))
+
+bareFits : ℕ → Bool
+bareFits row = leb (length (bareOf row)) (length (textOf row))
+
+pub bare-fits : (row : ℕ) → row < 32 → length (bareOf row) ≤ length (textOf row)
+unfolding bareFits
+bare-fits row h = leb→le _ _ (below 32 bareFits tt row h)
+
+-- the first rows are the names
+nameRow : ℕ → Bool
+nameRow k = same (bareOf (0 + k)) (nameOf k)
+
+pub name-row : (k : ℕ) → k < 23 → bareOf (0 + k) ≡ nameOf k
+unfolding nameRow
+name-row k h = same-is _ _ (sure _ (below 23 nameRow tt k h))
+
+leadRow : ℕ → Bool
+leadRow k = same (textOf (0 + k)) (leadOf k)
+
+pub lead-row : (k : ℕ) → k < 23 → textOf (0 + k) ≡ leadOf k
+unfolding leadRow
+lead-row k h = same-is _ _ (sure _ (below 23 leadRow tt k h))
+
+-- where the words of a setting's values begin, and how many there are
+abbrev pub firsts : List ℕ
+firsts = 23 ∷ 23 ∷ 23 ∷ 29 ∷ 27 ∷ 25 ∷ replicate 17 23
+
+abbrev pub counts : List ℕ
+counts = 0 ∷ 0 ∷ 0 ∷ 3 ∷ replicate 17 2 ++ (0 ∷ 0 ∷ [])
+
+countRight : ℕ → Bool
+countRight k = eqb (getD counts k 0) (length (wordsOf k))
+
+pub count-is : (k : ℕ) → k < 23 → getD counts k 0 ≡ length (wordsOf k)
+unfolding countRight
+count-is k h = eqb→eq _ _ (below 23 countRight tt k h)
+
+wordsFit : ℕ → Bool
+wordsFit k = leb (getD firsts k 0 + getD counts k 0) 32
+
+pub words-fit : (k : ℕ) → k < 23 → getD firsts k 0 + getD counts k 0 ≤ 32
+unfolding wordsFit
+words-fit k h = leb→le _ _ (below 23 wordsFit tt k h)
+
+wordRow : ℕ → ℕ → Bool
+wordRow k v = same (bareOf (getD firsts k 0 + v)) (wordOf k v)
+
+wordRows : ℕ → Bool
+wordRows k = everyBelow (length (wordsOf k)) (wordRow k)
+
+pub word-row : (k v : ℕ) → k < 23 → v < length (wordsOf k) → bareOf (getD firsts k 0 + v) ≡ wordOf k v
+unfolding wordRow wordRows
+word-row k v h l = same-is _ _ (sure _ (below (length (wordsOf k)) (wordRow k) (below 23 wordRows tt k h) v l))
