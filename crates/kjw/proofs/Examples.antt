@@ -7,7 +7,7 @@ use Rattle.laws.specs.Bytes.{ascii}
 use Rattle.terms.specs.declared.Answer.the-variants.{Done, AreaTooSmall, WrongLength, NotForUs, NotUnderstood}
 use Rattle.panels.specs.Records.{startK}
 use Rattle.panels.specs.declared.KRecord.{KRecord}
-use Rattle.kjw.specs.Decimals.{isDigit, decimal, inDigits}
+use Rattle.numbers.specs.Decimals.{isDigit, decimal, inDigits}
 use Rattle.kjw.specs.Frames.{frameOf, lettersOf, nameOf, switchWord, sceneWord, inputWord, valueOf}
 use Rattle.kjw.specs.Rules.{turned, met, turnOf, heardOf, isOurs, controlOf, enquiryOf, toggleOf, upTo, switchOf, sceneOf, volumeOrder, isVolume, inputOrder, isInput, carried, flipped, withPower, withAmut, withPmut, withVolume, withScene, withInput, replyOf, noticed, bytesOf}
 

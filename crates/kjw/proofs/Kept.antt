@@ -15,7 +15,7 @@ use Rattle.terms.specs.declared.Answer.the-variants.{Done, AreaTooSmall, WrongL
 use Rattle.panels.specs.Records.{kinds}
 use Rattle.panels.specs.Valid.{okInput, okK}
 use Rattle.panels.specs.declared.KRecord.{KRecord}
-use Rattle.kjw.specs.Decimals.{decimal}
+use Rattle.numbers.specs.Decimals.{decimal}
 use Rattle.kjw.specs.Frames.{lettersOf, typeControl, blank, nameOf}
 use Rattle.kjw.specs.Rules.{switchOf, sceneOf, isVolume, isInput, upTo, volumeOrder, inputOrder, toggleOf, controlOf, enquiryOf, isOurs, heardOf, flipped, carried, turnOf, turned, met}
 use Rattle.kjw.specs.declared.State.the-variants.{Power, AudioMute, PictureMute, Volume, Input, Scene}
@@ -60,7 +60,7 @@ unfolding okInput
 input-ok p h i =
     let port = decimal (part 12 4 p) in
     let kind : listed kinds (getD p 7 0 - 0x30) ≡ true = listed-every (λ (x : ℕ). listed kinds (x - 0x30)) (ascii "1345") (getD p 7 0) refl (i .kind) in
-    and-both (listed kinds (getD p 7 0 - 0x30) && leb 1 port) (leb port 9999) (and-both (listed kinds (getD p 7 0 - 0x30)) (leb 1 port) kind (le-leb 1 port (i .port))) (le-leb port 9999 (port-most p h i))
+    and-both (listed kinds (getD p 7 0 - 0x30) && leb 1 port) (leb port 9999) (and-both (listed kinds (getD p 7 0 - 0x30)) (leb 1 port) kind (le-leb 1 port (i .port))) (le-leb port 9999 (port-most p h (i .digits)))
 
 input-sound : (p : List ℕ) → length p ≡ 16 → sound (inputOrder p) ≡ true
 unfolding inputOrder

@@ -7,7 +7,7 @@ use native.Mathlib.Omega.{arith}
 use lib.ListN.{length, length-append}
 use lib.Dec.{eqb}
 use Rattle.panels.specs.declared.KRecord.{KRecord}
-use Rattle.kjw.specs.Decimals.{inDigits}
+use Rattle.numbers.specs.Decimals.{inDigits}
 use Rattle.kjw.specs.Frames.{frameOf, nameOf, off, on, auto, autoSync, general, switchWord, sceneWord, inputWord, valueOf}
 use Rattle.kjw.specs.declared.State.{State}
 use Rattle.kjw.specs.declared.State.the-variants.{Power, AudioMute, PictureMute, Volume, Input, Scene}

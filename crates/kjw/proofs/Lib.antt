@@ -1,4 +1,3 @@
-mod Decimals
 pub mod Determined
 pub mod Door
 mod Examples

@@ -11,9 +11,9 @@ use Rattle.laws.specs.Bytes.{ascii, part, same}
 use Rattle.laws.specs.Lists.{every, listed}
 use Rattle.laws.proofs.Conditions.{and-first, and-second, false-true}
 use Rattle.laws.proofs.Lists.{same-is, part-length}
-use Rattle.kjw.specs.Decimals.{isDigit, decimal}
+use Rattle.numbers.specs.Decimals.{isDigit, decimal}
 use Rattle.kjw.specs.Rules.{isVolume, isInput}
-use Rattle.kjw.proofs.Decimals.{decimal-fits}
+use Rattle.numbers.proofs.Decimals.{decimal-fits}
 
 pub volume-digits : (p : List ℕ) → isVolume p ≡ true → every isDigit p ≡ true
 unfolding isVolume
@@ -59,14 +59,14 @@ listed-every f (y ∷ l) x a e = pick (eqb x y) refl e (listed-every f l x (and-
     pick false t e r = r e
 
 -- the type's digit is a digit
-pub kind-digit : (p : List ℕ) → Inputs p → isDigit (getD p 7 0) ≡ true
+pub kind-digit : (p : List ℕ) → listed (ascii "1345") (getD p 7 0) ≡ true → isDigit (getD p 7 0) ≡ true
 unfolding isDigit
-kind-digit p i = listed-every isDigit (ascii "1345") (getD p 7 0) refl (i .kind)
+kind-digit p e = listed-every isDigit (ascii "1345") (getD p 7 0) refl e
 
 -- four digits fit a port
-pub port-most : (p : List ℕ) → length p ≡ 16 → Inputs p → decimal (part 12 4 p) ≤ 9999
-port-most p h i =
+pub port-most : (p : List ℕ) → length p ≡ 16 → every isDigit (part 12 4 p) ≡ true → decimal (part 12 4 p) ≤ 9999
+port-most p h d =
     let l : length (part 12 4 p) ≡ 4 = part-length 12 4 p (omega arith) in
-    let f = decimal-fits (part 12 4 p) (i .digits) in
+    let f = decimal-fits (part 12 4 p) d in
     let g : decimal (part 12 4 p) < 10000 = rw l at f in
     omega arith

@@ -15,7 +15,7 @@ use Rattle.laws.proofs.Lists.{same-is, part-from, part-join, part-length}
 use Rattle.laws.proofs.Conditions.{false-true}
 use Rattle.terms.specs.declared.Answer.the-variants.{Done}
 use Rattle.panels.specs.declared.KRecord.{KRecord}
-use Rattle.kjw.specs.Decimals.{decimal, inDigits}
+use Rattle.numbers.specs.Decimals.{decimal, inDigits}
 use Rattle.kjw.specs.Frames.{frameOf, typeControl, typeEnquiry, typeAnswer, lettersOf, blank, nameOf, off, on, switchWord, auto, autoSync, general, sceneWord, inputWord, valueOf}
 use Rattle.kjw.specs.Rules.{switchOf, sceneOf, isVolume, isInput, upTo, volumeOrder, inputOrder, toggleOf, controlOf, enquiryOf, isOurs, heardOf, flipped, withPower, withPmut, carried, turnOf, replyOf, bytesOf, turned}
 use Rattle.kjw.specs.declared.State.{State}
@@ -24,7 +24,7 @@ use Rattle.kjw.specs.declared.Order.{Order}
 use Rattle.kjw.specs.declared.Order.the-variants.{SetPower, SetAudioMute, SetPictureMute, SetVolume, SetInput, SetScene}
 use Rattle.kjw.specs.declared.Heard.{Heard}
 use Rattle.kjw.specs.declared.Heard.the-variants.{Strange, Understood}
-use Rattle.kjw.proofs.Decimals.{digit-low, digit-high, in-digits-decimal}
+use Rattle.numbers.proofs.Decimals.{digit-low, digit-high, in-digits-decimal}
 use Rattle.kjw.proofs.Orders.{volume-digits, Inputs, input-is, kind-digit}
 use Rattle.kjw.proofs.Lengths.{frame-length}
 
@@ -54,8 +54,8 @@ volume-back p h e = ap (λ (n : ℕ). inDigits n (decimal p)) (sym h) ∙ in-dig
 kind-back : (p : List ℕ) → length p ≡ 16 → Inputs p → inDigits 1 (getD p 7 0 - 0x30) ≡ part 7 1 p
 unfolding inDigits
 kind-back p h i =
-    let low = digit-low (getD p 7 0) (kind-digit p i) in
-    let high = digit-high (getD p 7 0) (kind-digit p i) in
+    let low = digit-low (getD p 7 0) (kind-digit p (i .kind)) in
+    let high = digit-high (getD p 7 0) (kind-digit p (i .kind)) in
     let d : 0x30 + (getD p 7 0 - 0x30) / 1 % 10 ≡ getD p 7 0 = rw div-one (omega arith) in
     ap (λ (x : ℕ). x ∷ []) d ∙ sym (part-from 7 8 0 p (omega arith) refl)
 

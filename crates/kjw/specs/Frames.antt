@@ -6,7 +6,7 @@ use lib.ListN.{getD, replicate}
 use lib.Dec.{eqb}
 use Rattle.laws.specs.Bytes.{ascii}
 use Rattle.panels.specs.declared.KRecord.{KRecord}
-use Rattle.kjw.specs.Decimals.{inDigits}
+use Rattle.numbers.specs.Decimals.{inDigits}
 use Rattle.kjw.specs.declared.State.{State}
 use Rattle.kjw.specs.declared.State.the-variants.{Power, AudioMute, PictureMute, Volume, Input, Scene}
 

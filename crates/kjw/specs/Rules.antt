@@ -10,7 +10,7 @@ use Rattle.laws.specs.Lists.{every, listed}
 use Rattle.terms.specs.declared.Answer.{Answer}
 use Rattle.terms.specs.declared.Answer.the-variants.{Done, AreaTooSmall, WrongLength, NotForUs, NotUnderstood}
 use Rattle.panels.specs.declared.KRecord.{KRecord}
-use Rattle.kjw.specs.Decimals.{isDigit, decimal}
+use Rattle.numbers.specs.Decimals.{isDigit, decimal}
 use Rattle.kjw.specs.Frames.{frameOf, typeControl, typeEnquiry, typeAnswer, typeNotice, lettersOf, blank, accepted, rejected, nameOf, off, on, auto, autoSync, general, valueOf}
 use Rattle.kjw.specs.declared.State.{State}
 use Rattle.kjw.specs.declared.State.the-variants.{Power, AudioMute, PictureMute, Volume, Input, Scene}

@@ -1,18 +1,20 @@
 // The KJW frames of family K (document 01, "KJW (003)"): what a frame asks, what the panel does with it, what goes back.
+use numbers::Number;
+use numbers::digits4;
+use numbers::number_of;
 use octets::byte_at;
 use octets::is_listed;
 use octets::same_bytes;
 use panels::KRecord;
 use terms::Answer;
 ghost use mathlib.Core.Path.{_≡_};
-ghost use mathlib.Core.Bool.{true};
-ghost use Prim.Native.Nat.{_+_, _%_, _≤_};
-ghost use lib.ListN.{length};
+ghost use mathlib.Core.List.{_++_};
+ghost use Prim.Native.Nat.{_+_, _≤_};
+ghost use lib.ListN.{length, replicate};
 ghost use Rattle.laws.specs.Bytes.{over};
-ghost use Rattle.laws.specs.Lists.{every};
-ghost use Rattle.kjw.specs.Decimals.{isDigit, decimal, inDigits};
+ghost use Rattle.numbers.specs.Decimals.{inDigits};
 ghost use Rattle.kjw.specs.Frames.{frameOf, typeAnswer, lettersOf, nameOf, switchWord, sceneWord, inputWord, valueOf};
-ghost use Rattle.kjw.specs.Rules.{switchOf, sceneOf, isVolume, isInput, upTo, volumeOrder, inputOrder, toggleOf, controlOf, enquiryOf, isOurs, heardOf, flipped, carried, noticed, replyOf, turnOf, bytesOf, Sent, Answered};
+ghost use Rattle.kjw.specs.Rules.{switchOf, sceneOf, upTo, volumeOrder, inputOrder, toggleOf, controlOf, enquiryOf, isOurs, heardOf, flipped, carried, noticed, replyOf, turnOf, bytesOf, Sent, Answered};
 
 // What an enquiry asks for and a notice tells: POWR, AMUT, PMUT, VOLU, INPT, SCEN.
 pub enum State {
@@ -74,45 +76,6 @@ fn letters_of(m: &[u8]) -> [u8; 4]
     [byte_at(m, 3), byte_at(m, 4), byte_at(m, 5), byte_at(m, 6)]
 }
 
-// A byte `0` to `9`.
-fn is_digit(b: u8) -> bool
-    ensures { λ r. ⌜ r ≡ isDigit b ⌝ }
-{
-    if b < b'0' {
-        return false;
-    }
-    b <= b'9'
-}
-
-// Decimal digits and nothing else.
-fn are_digits(p: &[u8]) -> bool
-    ensures { λ r. ⌜ r ≡ every isDigit (now (p .entry)) ⌝ }
-{
-    let mut i = 0;
-    while i < p.len() {
-        if !is_digit(p[i]) {
-            return false;
-        }
-        i += 1;
-    }
-    true
-}
-
-// The number that at most sixteen digits write.
-fn number_in(p: &[u8]) -> u64
-    requires { ⌜ length (now p) ≤ 16 ⌝ }
-    requires { ⌜ every isDigit (now p) ≡ true ⌝ }
-    ensures { λ r. ⌜ r ≡ decimal (now (p .entry)) ⌝ }
-{
-    let mut i = 0;
-    let mut v = 0u64;
-    while i < p.len() {
-        v = v * 10 + (p[i] - b'0') as u64;
-        i += 1;
-    }
-    v
-}
-
 // "Fifteen `0` and 0 or 1"; 2 where it is neither.
 fn switch_of(p: &[u8]) -> u8
     ensures { λ r. ⌜ r ≡ switchOf (now (p .entry)) ⌝ }
@@ -142,37 +105,6 @@ fn scene_of(p: &[u8]) -> u8
     3
 }
 
-// "VOLU, 16 decimal digits, 0 to 100 (house)."
-fn is_volume(p: &[u8]) -> bool
-    requires { ⌜ length (now p) ≡ 16 ⌝ }
-    ensures { λ r. ⌜ r ≡ isVolume (now (p .entry)) ⌝ }
-{
-    if !are_digits(p) {
-        return false;
-    }
-    number_in(p) <= 100
-}
-
-// "INPT is seven `0`, type 1, 3, 4 or 5, four `0`, port 0001 to 9999."
-fn is_input(p: &[u8]) -> bool
-    requires { ⌜ length (now p) ≡ 16 ⌝ }
-    ensures { λ r. ⌜ r ≡ isInput (now (p .entry)) ⌝ }
-{
-    if !same_bytes(&p[0..7], b"0000000") {
-        return false;
-    }
-    if !is_listed(b"1345", p[7]) {
-        return false;
-    }
-    if !same_bytes(&p[8..12], b"0000") {
-        return false;
-    }
-    if !are_digits(&p[12..16]) {
-        return false;
-    }
-    1 <= number_in(&p[12..16])
-}
-
 // An order, where its number is at most so much.
 fn up_to(most: u8, v: u8, o: Order) -> Heard
     ensures { λ r. ⌜ r ≡ upTo most v o ⌝ }
@@ -183,27 +115,40 @@ fn up_to(most: u8, v: u8, o: Order) -> Heard
     Heard::Understood(o)
 }
 
-// The order of a VOLU control.
+// "VOLU, 16 decimal digits, 0 to 100 (house)."
 fn volume_order(p: &[u8]) -> Heard
     requires { ⌜ length (now p) ≡ 16 ⌝ }
     ensures { λ r. ⌜ r ≡ volumeOrder (now (p .entry)) ⌝ }
 {
-    if !is_volume(p) {
+    let Number::Is(v) = number_of(p) else {
+        return Heard::Strange;
+    };
+    if 100 < v {
         return Heard::Strange;
     }
-    let v = number_in(p);
     Heard::Understood(Order::SetVolume(v as u8))
 }
 
-// The order of an INPT control.
+// "INPT is seven `0`, type 1, 3, 4 or 5, four `0`, port 0001 to 9999."
 fn input_order(p: &[u8]) -> Heard
     requires { ⌜ length (now p) ≡ 16 ⌝ }
     ensures { λ r. ⌜ r ≡ inputOrder (now (p .entry)) ⌝ }
 {
-    if !is_input(p) {
+    if !same_bytes(&p[0..7], b"0000000") {
         return Heard::Strange;
     }
-    let port = number_in(&p[12..16]);
+    if !is_listed(b"1345", p[7]) {
+        return Heard::Strange;
+    }
+    if !same_bytes(&p[8..12], b"0000") {
+        return Heard::Strange;
+    }
+    let Number::Is(port) = number_of(&p[12..16]) else {
+        return Heard::Strange;
+    };
+    if port < 1 {
+        return Heard::Strange;
+    }
     Heard::Understood(Order::SetInput(p[7] - b'0', port as u16))
 }
 
@@ -381,35 +326,33 @@ fn scene_word(v: u8) -> [u8; 16]
     *b"general#########"
 }
 
-// The last digit of a number.
-fn digit(v: u16) -> u8
-    ensures { λ r. ⌜ r ≡ 48 + v % 10 ⌝ }
+// Twelve `0` and the last four digits of a number.
+fn four_digits(v: u16) -> [u8; 16]
+    ensures { λ r. ⌜ r ≡ replicate 12 0x30 ++ inDigits 4 v ⌝ }
 {
-    b'0' + (v % 10) as u8
+    let d = digits4(v);
+    let mut word = *b"0000000000000000";
+    word[12] = d[0];
+    word[13] = d[1];
+    word[14] = d[2];
+    word[15] = d[3];
+    word
 }
 
 // "16 decimal digits", of which a byte needs the last three.
 fn volume_word(v: u8) -> [u8; 16]
     ensures { λ r. ⌜ r ≡ inDigits 16 v ⌝ }
 {
-    let v = v as u16;
-    let mut word = *b"0000000000000000";
-    word[13] = digit(v / 100);
-    word[14] = digit(v / 10);
-    word[15] = digit(v);
-    word
+    four_digits(v as u16)
 }
 
 // "Seven `0`, type [..], four `0`, port."
 fn input_word(kind: u8, port: u16) -> [u8; 16]
     ensures { λ r. ⌜ r ≡ inputWord kind port ⌝ }
 {
-    let mut word = *b"0000000000000000";
-    word[7] = digit(kind as u16);
-    word[12] = digit(port / 1000);
-    word[13] = digit(port / 100);
-    word[14] = digit(port / 10);
-    word[15] = digit(port);
+    let d = digits4(kind as u16);
+    let mut word = four_digits(port);
+    word[7] = d[3];
     word
 }
 

@@ -1,33 +1,42 @@
--- `volume_order` reads the number where the parameters pass the test, which says that it fits a byte.
-use mathlib.Core.Path.{sym, _∙_}
-use borrow.Author.Tests.{not-true, not-false}
-use borrow.Author.Needs.{needs}
+-- `volume_order` takes the number that the digits write, and its bound, which says that it fits a byte.
+use mathlib.Core.Path.{sym}
 use native.Mathlib.Omega.{arith}
-use Rattle.kjw.specs.Rules.{volumeOrder}
-use Rattle.kjw.proofs.Orders.{volume-digits, volume-most}
+use borrow.Author.Tests.{le-leb, lt-leb}
+use borrow.Author.Needs.{needs}
+use Rattle.numbers.proofs.Decimals.{number-is, number-not}
+use Rattle.kjw.specs.Rules.{isVolume, volumeOrder}
 use Rattle.kjw.proofs.volume_order.Statement.{statement}
 use Rattle.kjw.proofs.volume_order.Tie as tie
 
-is-volume-requires : tie.Need-is-volume-requires
-is-volume-requires c κs = search needs
+number-of-requires : tie.Need-number-of-requires
+number-of-requires c κs = search needs
+
+enum-known-v : tie.Need-enum-known-v
+enum-known-v c = search needs
+
+enum-told : tie.Need-enum-told
+enum-told c = search needs
 
 returns : tie.Need-returns
-unfolding volumeOrder
-returns c = sym (rw (← c .before .is-volume .ensures, not-true (c .before .is-volume .result) (c .if1 .taken)))
-
-number-in-requires : tie.Need-number-in-requires
-number-in-requires c κs = (search needs, volume-digits (c .before .before .before .args .p .now) (sym (c .before .is-volume .ensures) ∙ not-false (c .before .is-volume .result) (c .if1 .left)))
-
-cast-t5 : tie.Need-cast-t5
-cast-t5 c =
-    let h = volume-most (c .before .before .before .before .args .p .now) (sym (c .before .before .is-volume .ensures) ∙ not-false (c .before .before .is-volume .result) (c .before .if1 .left)) in
-    let e = c .number-in .ensures in
-    omega arith
+unfolding volumeOrder isVolume
+returns c = sym (rw (number-not (c .before .before .before .before .args .p .now) _ (omega arith) (omega arith) (c .before .before .number-of .ensures) (c .enum-told .given .1)))
 
 returns-2 : tie.Need-returns-2
-unfolding volumeOrder
-returns-2 c = sym (rw (← c .before .before .is-volume .ensures, not-false (c .before .before .is-volume .result) (c .before .if1 .left), ← c .number-in .ensures))
+unfolding volumeOrder isVolume
+returns-2 c =
+    let n = number-is (c .before .before .before .before .before .before .args .p .now) _ _ (c .before .before .before .before .number-of .ensures) (c .before .before .v .given .1) in
+    sym (rw (n .0, ← n .1, lt-leb _ _ (c .if1 .taken)))
+
+cast-t5 : tie.Need-cast-t5
+cast-t5 c = search needs
+
+returns-3 : tie.Need-returns-3
+unfolding volumeOrder isVolume
+returns-3 c =
+    let n = number-is (c .before .before .before .before .before .before .args .p .now) _ _ (c .before .before .before .before .number-of .ensures) (c .before .before .v .given .1) in
+    sym (rw (n .0, ← n .1, le-leb _ _ (c .if1 .left)))
 
 pub volume-order-spec : {M : Type 1} → statement M
 volume-order-spec =
-    tie.close (tie.spec is-volume-requires returns number-in-requires cast-t5 returns-2)
+    tie.close
+    (tie.spec number-of-requires enum-known-v enum-told returns returns-2 cast-t5 returns-3)

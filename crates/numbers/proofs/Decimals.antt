@@ -1,6 +1,6 @@
 -- Decimals, read and written: dividing by 10 ^ n takes the first of n + 1 digits off.
 use mathlib.Core.Path.{_≡_, refl, sym, ap, _∙_}
-use mathlib.Core.Bool.{true}
+use mathlib.Core.Bool.{Bool, true, false, cond, _&&_}
 use mathlib.Core.List.{List, [], _∷_, _++_}
 use Prim.Native.Nat.{ℕ, zero, suc, _+_, _-_, _*_, _/_, _%_, _^_, _<_, _≤_}
 use native.Mathlib.Omega.{arith}
@@ -9,11 +9,13 @@ use native.Mathlib.Numerals.{add-one}
 use lib.Arith.{digits-lt, digits-div}
 use lib.ListN.{length, getD, drop, replicate}
 use lib.Dec.{leb}
-use borrow.Author.Tests.{leb-true}
+use borrow.Author.Tests.{leb-true, le-leb}
 use Rattle.laws.specs.Lists.{every}
 use Rattle.laws.proofs.Conditions.{and-first, and-second}
 use Rattle.laws.proofs.Lists.{from, behind, every-from}
-use Rattle.kjw.specs.Decimals.{isDigit, decimal, inDigits}
+use Rattle.numbers.specs.Decimals.{isDigit, decimal, inDigits, numberOf}
+use Rattle.numbers.specs.declared.Number.{Number}
+use Rattle.numbers.specs.declared.Number.the-variants.{Is, Not}
 
 pub positive : (n : ℕ) → 0 < 10 ^ n
 positive zero = rw pow-zero (omega arith)
@@ -119,3 +121,25 @@ reading-small l i v r h =
     let p : 10 ^ i ≤ 10 ^ 15 = pow-le-pow-right (omega arith) h in
     let f = r .fits in
     omega arith
+
+-- of one to sixteen bytes the digits decide
+pub number-digits : (p : List ℕ) → 1 ≤ length p → length p ≤ 16 → numberOf p ≡ cond (every isDigit p) (Is (decimal p)) Not
+unfolding numberOf
+number-digits p low high = rw (le-leb 1 (length p) low, le-leb (length p) 16 high)
+
+-- a number that was read is what the digits write, and there is none where a byte is no digit
+pub number-is : (p : List ℕ) (r : Number) (v : ℕ) → r ≡ numberOf p → r ≡ Is v → (every isDigit p ≡ true) × (v ≡ decimal p)
+unfolding numberOf
+number-is p r v e f = go (leb 1 (length p) && leb (length p) 16) (every isDigit p) refl (sym e ∙ f)
+  where
+    go : (a b : Bool) → every isDigit p ≡ b → cond (a && b) (Is (decimal p)) Not ≡ Is v → (every isDigit p ≡ true) × (v ≡ decimal p)
+    go true true t q = (t, cc)
+    go true false t q = let z : _≡_ {A = ℕ} 0 1 = cc in absurd (omega arith)
+    go false b t q = let z : _≡_ {A = ℕ} 0 1 = cc in absurd (omega arith)
+
+pub number-not : (p : List ℕ) (r : Number) → 1 ≤ length p → length p ≤ 16 → r ≡ numberOf p → r ≡ Not → every isDigit p ≡ false
+number-not p r low high e f = go (every isDigit p) (sym (number-digits p low high) ∙ sym e ∙ f)
+  where
+    go : (b : Bool) → cond b (Is (decimal p)) Not ≡ Not → b ≡ false
+    go true q = let z : _≡_ {A = ℕ} 0 1 = cc in absurd (omega arith)
+    go false q = refl

@@ -1,0 +1,36 @@
+-- Decimal digits, the highest first.
+use Prim.Native.Nat.{ℕ, zero, suc, _+_, _-_, _*_, _/_, _%_, _^_}
+use mathlib.Core.Bool.{Bool, cond, _&&_}
+use mathlib.Core.List.{List, [], _∷_, _++_}
+use lib.ListN.{length, replicate}
+use lib.Dec.{leb, ltb}
+use Rattle.laws.specs.Lists.{every}
+use Rattle.numbers.specs.declared.Number.{Number}
+use Rattle.numbers.specs.declared.Number.the-variants.{Is, Not}
+use Rattle.numbers.specs.declared.Numeral.{Numeral}
+
+-- a byte `0` to `9`
+unfoldable pub isDigit : ℕ → Bool
+isDigit b = leb 0x30 b && leb b 0x39
+
+-- the number that digits write
+unfoldable pub decimal : List ℕ → ℕ
+decimal [] = 0
+decimal (b ∷ bs) = (b - 0x30) * 10 ^ length bs + decimal bs
+
+-- the n last digits of a number
+unfoldable pub inDigits : ℕ → ℕ → List ℕ
+inDigits zero v = []
+inDigits (suc n) v = (0x30 + v / 10 ^ n % 10) ∷ inDigits n v
+
+-- the number that one to sixteen decimal digits write, and nothing else
+unfoldable pub numberOf : List ℕ → Number
+numberOf p = cond (leb 1 (length p) && leb (length p) 16 && every isDigit p) (Is (decimal p)) Not
+
+-- a number below 1000 in decimal, without leading zeros
+unfoldable pub numeral : ℕ → List ℕ
+numeral v = cond (ltb v 10) (inDigits 1 v) (cond (ltb v 100) (inDigits 2 v) (inDigits 3 v))
+
+-- the same at the front of three bytes, and how many of them it fills
+unfoldable pub spelled : ℕ → Numeral
+spelled v = record { bytes = numeral v ++ replicate (3 - length (numeral v)) 0; len = length (numeral v) }
