@@ -1,0 +1,5 @@
+pub mod Back
+pub mod Determined
+mod Levels
+pub mod Only
+mod Signs

@@ -1,0 +1,259 @@
+// VMC: what the words of a packet's data ask of a W panel, and the words that go back (document 01, "SDCP and VMC").
+use numbers::Number;
+use numbers::number_of;
+use octets::begins_with;
+use octets::byte_at;
+use octets::same_bytes;
+use panels::WRecord;
+use words::Found;
+use words::chosen;
+use words::lead_length;
+use words::led;
+use words::named;
+ghost use mathlib.Core.Path.{_≡_};
+ghost use Prim.Native.Nat.{_≤_};
+ghost use lib.ListN.{set};
+ghost use Rattle.words.specs.Names.{chosenBy};
+ghost use Rattle.vmc.specs.Reading.{leadsZero, levelOf, signed, levelOrder, choiceOrder, shiftBy, shiftOrder, valueOrder, readSet, readGet, readData};
+ghost use Rattle.vmc.specs.Orders.{withSettings, withShifts, carried, toldOf};
+
+// What the words order or ask. The number is the name's place: 0 to 20 are the table's settings, 21 and 22 SHIFTH and SHIFTV.
+pub enum Order {
+    // STATset with a level or a choice: the setting and its value
+    Set(usize, u8),
+    // STATset SHIFTH (0) or SHIFTV (1)
+    Shift(usize, i8),
+    // STATset RESET
+    Reset,
+    // STATget
+    Get(usize),
+}
+
+// What the data says: an order, or nothing that is understood (6).
+pub enum Words {
+    Understood(Order),
+    Strange,
+}
+
+// What an order is told: nothing, a setting's value, or a shift.
+pub enum Told {
+    Bare,
+    Value(usize, u8),
+    Offset(usize, i8),
+}
+
+// Words at the front of twenty bytes.
+pub struct Text {
+    pub bytes: [u8; 20],
+    pub len: usize,
+}
+
+// A leading zero: `0` alone has none.
+fn leads_zero(s: &[u8]) -> bool
+    ensures { λ r. ⌜ r ≡ leadsZero (now (s .entry)) ⌝ }
+{
+    if s.len() == 1 {
+        return false;
+    }
+    byte_at(s, 0) == b'0'
+}
+
+// "0 to 100 (no sign, no leading zero)": the number, or none. More than three digits are over 100.
+fn level_of(s: &[u8]) -> Number
+    ensures { λ r. ⌜ r ≡ levelOf (now (s .entry)) ⌝ }
+{
+    if 3 < s.len() {
+        return Number::Not;
+    }
+    if leads_zero(s) {
+        return Number::Not;
+    }
+    let Number::Is(v) = number_of(s) else {
+        return Number::Not;
+    };
+    if 100 < v {
+        return Number::Not;
+    }
+    Number::Is(v)
+}
+
+// "A word that should be a number and is none ends the reading with 6."
+fn level_order(k: usize, s: &[u8]) -> Words
+    ensures { λ r. ⌜ r ≡ levelOrder k (levelOf (now (s .entry))) ⌝ }
+{
+    let Number::Is(v) = level_of(s) else {
+        return Words::Strange;
+    };
+    Words::Understood(Order::Set(k, v as u8))
+}
+
+fn choice_order(k: usize, s: &[u8]) -> Words
+    ensures { λ r. ⌜ r ≡ choiceOrder k (chosenBy k (now (s .entry))) ⌝ }
+{
+    let Found::At(v) = chosen(k, s) else {
+        return Words::Strange;
+    };
+    Words::Understood(Order::Set(k, v as u8))
+}
+
+// A size with its sign.
+fn signed_of(minus: bool, size: u8) -> i8
+    requires { ⌜ size ≤ 30 ⌝ }
+    ensures { λ r. ⌜ r ≡ signed minus size ⌝ }
+{
+    if minus {
+        return 0 - (size as i8);
+    }
+    size as i8
+}
+
+// A shift of at least so much and at most 30.
+fn shift_by(axis: usize, minus: bool, least: u64, s: &[u8]) -> Words
+    ensures { λ r. ⌜ r ≡ shiftBy axis minus least (levelOf (now (s .entry))) ⌝ }
+{
+    let Number::Is(n) = level_of(s) else {
+        return Words::Strange;
+    };
+    if n < least {
+        return Words::Strange;
+    }
+    if 30 < n {
+        return Words::Strange;
+    }
+    Words::Understood(Order::Shift(axis, signed_of(minus, n as u8)))
+}
+
+// "-30 to +30 (sign allowed save before 0, no leading zero)."
+fn shift_order(axis: usize, s: &[u8]) -> Words
+    ensures { λ r. ⌜ r ≡ shiftOrder axis (now (s .entry)) ⌝ }
+{
+    if begins_with(s, b"+") {
+        return shift_by(axis, false, 1, &s[1..]);
+    }
+    if begins_with(s, b"-") {
+        return shift_by(axis, true, 1, &s[1..]);
+    }
+    shift_by(axis, false, 0, s)
+}
+
+// What the words behind name k ask.
+fn value_order(k: usize, s: &[u8]) -> Words
+    ensures { λ r. ⌜ r ≡ valueOrder k (now (s .entry)) ⌝ }
+{
+    if k < 3 {
+        return level_order(k, s);
+    }
+    if k < 21 {
+        return choice_order(k, s);
+    }
+    shift_order(k - 21, s)
+}
+
+// The words behind STATset.
+fn read_set(s: &[u8]) -> Words
+    ensures { λ r. ⌜ r ≡ readSet (now (s .entry)) ⌝ }
+{
+    if same_bytes(s, b"RESET") {
+        return Words::Understood(Order::Reset);
+    }
+    let Found::At(k) = led(s) else {
+        return Words::Strange;
+    };
+    let n = lead_length(k);
+    value_order(k, &s[n..])
+}
+
+// The words behind STATget.
+fn read_get(s: &[u8]) -> Words
+    ensures { λ r. ⌜ r ≡ readGet (now (s .entry)) ⌝ }
+{
+    let Found::At(k) = named(s) else {
+        return Words::Strange;
+    };
+    Words::Understood(Order::Get(k))
+}
+
+// What the data asks.
+pub fn read_data(d: &[u8]) -> Words
+    ensures { λ r. ⌜ r ≡ readData (now (d .entry)) ⌝ }
+{
+    if begins_with(d, b"STATset ") {
+        return read_set(&d[8..]);
+    }
+    if begins_with(d, b"STATget ") {
+        return read_get(&d[8..]);
+    }
+    Words::Strange
+}
+
+// A setting of the table at a value.
+fn assign(w: WRecord, k: usize, v: u8) -> WRecord
+    ensures { λ r. ⌜ r ≡ withSettings w (set (w .settings) k v) ⌝ }
+{
+    if 21 <= k {
+        return w;
+    }
+    let mut settings = w.settings;
+    settings[k] = v;
+    let mut x = w;
+    x.settings = settings;
+    x
+}
+
+// A shift at a value.
+fn shift(w: WRecord, axis: usize, z: i8) -> WRecord
+    ensures { λ r. ⌜ r ≡ withShifts w (set (w .shifts) axis z) ⌝ }
+{
+    if 2 <= axis {
+        return w;
+    }
+    let mut shifts = w.shifts;
+    shifts[axis] = z;
+    let mut x = w;
+    x.shifts = shifts;
+    x
+}
+
+// An order carried out.
+pub fn obey(w: WRecord, o: Order) -> WRecord
+    ensures { λ r. ⌜ r ≡ carried o w ⌝ }
+{
+    match o {
+        Order::Set(k, v) => assign(w, k, v),
+        Order::Shift(axis, z) => shift(w, axis, z),
+        Order::Reset => {
+            let mut x = w;
+            x.shifts = [0; 2];
+            x
+        }
+        Order::Get(_) => w,
+    }
+}
+
+// The present value behind name k.
+fn present(w: WRecord, k: usize) -> Told
+    ensures { λ r. ⌜ r ≡ toldOf (Order.Get k) w ⌝ }
+{
+    if k < 21 {
+        let settings = w.settings;
+        return Told::Value(k, settings[k]);
+    }
+    let axis = k - 21;
+    if 2 <= axis {
+        return Told::Offset(k, 0);
+    }
+    let shifts = w.shifts;
+    Told::Offset(k, shifts[axis])
+}
+
+// What an order is told.
+pub fn tell(w: WRecord, o: Order) -> Told
+    ensures { λ r. ⌜ r ≡ toldOf o w ⌝ }
+{
+    match o {
+        Order::Set(_, _) => Told::Bare,
+        Order::Shift(_, _) => Told::Bare,
+        Order::Reset => Told::Bare,
+        Order::Get(k) => present(w, k),
+    }
+}
