@@ -4,7 +4,7 @@ use mathlib.Core.Bool.{Bool}
 use mathlib.Core.List.{List, [], _∷_}
 use Prim.Native.Nat.{ℕ}
 use lib.ListN.{getD}
-use Rattle.laws.specs.Bytes.{same}
+use Rattle.laws.specs.Bytes.{same, laid}
 use Rattle.laws.specs.Lists.{listed, within}
 use Rattle.laws.specs.Numbers.{number, inBytes}
 
@@ -35,3 +35,6 @@ bytes4-one = bytes-one 4
 
 pub byte-at-one : (s : List ℕ) (i r r′ : ℕ) → r ≡ getD s i 0 → r′ ≡ getD s i 0 → r ≡ r′
 byte-at-one s i r r′ p q = p ∙ sym q
+
+pub lay-one : (d s : List ℕ) (n : ℕ) (x x′ : List ℕ) → x ≡ laid d n s → x′ ≡ laid d n s → x ≡ x′
+lay-one d s n x x′ p q = p ∙ sym q
