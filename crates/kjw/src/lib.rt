@@ -4,6 +4,7 @@ use numbers::digits4;
 use numbers::number_of;
 use octets::byte_at;
 use octets::is_listed;
+use octets::lay;
 use octets::same_bytes;
 use panels::KRecord;
 use terms::Answer;
@@ -423,18 +424,6 @@ fn turn_of(k: KRecord, h: Heard) -> Turn
                 reply,
             }
         }
-    }
-}
-
-// Lays bytes over an area from a place on.
-fn lay(out: &mut [u8], at: usize, bytes: &[u8])
-    requires { ⌜ at + length (now bytes) ≤ length (now out) ⌝ }
-    ensures { λ _. ⌜ now (out .exit) ≡ over (now (out .entry)) at (now (bytes .entry)) ⌝ }
-{
-    let mut i = 0;
-    while i < bytes.len() {
-        out[at + i] = bytes[i];
-        i += 1;
     }
 }
 

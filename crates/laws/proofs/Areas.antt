@@ -5,9 +5,10 @@ use Prim.Native.Nat.{ℕ, _+_, _≤_, _<_}
 use native.Mathlib.Omega.{arith}
 use native.Mathlib.Nat.{zero-add}
 use native.Mathlib.Numerals.{add-one}
-use lib.ListN.{length, getD, take, drop, set, length-append, drop-of-length-le}
+use lib.ListN.{length, getD, take, drop, set, length-append, length-take, length-drop, drop-of-length-le}
 use lib.Seq.{paste, paste-suc, take-at, drop-append-add, drop-drop, length-take-le, take-length}
-use Rattle.laws.specs.Bytes.{over, sent}
+use borrow.Author.Tests.{le-leb, lt-leb}
+use Rattle.laws.specs.Bytes.{over, laid, sent}
 
 -- two fields, one behind the other, are one field
 over-next : (d vs ws e : List ℕ) (n m : ℕ) → n + length vs ≡ m → m ≤ length d → e ≡ over (over d n vs) m ws → e ≡ over d n (vs ++ ws)
@@ -34,6 +35,29 @@ laid-next {d} {e} {n} {vs} {m} f ws k m′ l p q r h = record {
   is = over-next d vs ws f n m (l .end) h (p ∙ ap (λ (x : List ℕ). over x m ws) (l .is));
   end = ap (λ (j : ℕ). n + j) (length-append vs ws) ∙ omega (arith, l .end);
 }
+
+-- bytes that fit the area are laid over it, others are not
+pub laid-fits : (d : List ℕ) (n : ℕ) (vs : List ℕ) → n + length vs ≤ length d → laid d n vs ≡ over d n vs
+unfolding laid
+laid-fits d n vs h = rw (le-leb (n + length vs) (length d) h)
+
+pub laid-short : (d : List ℕ) (n : ℕ) (vs : List ℕ) → length d < n + length vs → laid d n vs ≡ d
+unfolding laid
+laid-short d n vs h = rw (lt-leb (n + length vs) (length d) h)
+
+-- what is laid over an area leaves its length
+over-length : (d : List ℕ) (n : ℕ) (vs : List ℕ) → n + length vs ≤ length d → length (over d n vs) ≡ length d
+over-length d n vs h = simp (length-append, length-take, length-drop) (omega arith)
+
+-- the first field, and one more behind the last, where there is room for them
+pub laid-first : {d : List ℕ} {n : ℕ} (f ws : List ℕ) (k m : ℕ) → f ≡ laid d n ws → length ws ≡ k → n + k ≡ m → m ≤ length d → Laid d f n ws m
+laid-first {d} {n} f ws k m p q r h = record { is = p ∙ laid-fits d n ws (omega arith); end = omega arith }
+
+pub laid-more : {d e : List ℕ} {n : ℕ} {vs : List ℕ} {m : ℕ} (f ws : List ℕ) (k m′ : ℕ) → Laid d e n vs m → f ≡ laid e m ws → length ws ≡ k → m + k ≡ m′ → m′ ≤ length d → Laid d f n (vs ++ ws) m′
+laid-more {d} {e} {n} {vs} {m} f ws k m′ l p q r h =
+    let end = l .end in
+    let size : length e ≡ length d = ap length (l .is) ∙ over-length d n vs (omega arith) in
+    laid-next f ws k m′ l (p ∙ laid-fits e m ws (omega arith)) q r (omega arith)
 
 -- what is laid over the front is a reply, then the old rest
 pub over-front : (d vs : List ℕ) → over d 0 vs ≡ sent vs d

@@ -3,10 +3,10 @@ use Prim.Native.Nat.{ℕ, _+_, _<_}
 use Prim.Native.String.{String}
 use Prim.Native.String.{[] as end, _∷_ as then}
 use Prim.Native.Char.{code}
-use mathlib.Core.Bool.{Bool, true, false, _&&_}
+use mathlib.Core.Bool.{Bool, true, false, cond, _&&_}
 use mathlib.Core.List.{List, [], _∷_, _++_}
 use lib.ListN.{length, getD, take, drop}
-use lib.Dec.{eqb}
+use lib.Dec.{eqb, leb}
 
 -- every element is a byte
 abbrev pub Bytes : List ℕ → Type 0
@@ -24,6 +24,10 @@ part n k l = take k (drop n l)
 -- d with vs laid over it from place n on
 abbrev pub over : List ℕ → ℕ → List ℕ → List ℕ
 over d n vs = take n d ++ vs ++ drop (n + length vs) d
+
+-- bytes laid over an area from a place on; an area too short for them is left as it is
+unfoldable pub laid : List ℕ → ℕ → List ℕ → List ℕ
+laid d n vs = cond (leb (n + length vs) (length d)) (over d n vs) d
 
 -- "A reply fills the front of the area; bytes after it keep what they held."
 abbrev pub sent : List ℕ → List ℕ → List ℕ

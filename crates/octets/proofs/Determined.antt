@@ -4,7 +4,7 @@ use mathlib.Core.Bool.{Bool}
 use mathlib.Core.List.{List, [], _∷_}
 use Prim.Native.Nat.{ℕ}
 use lib.ListN.{getD}
-use Rattle.laws.specs.Bytes.{same, begins}
+use Rattle.laws.specs.Bytes.{same, begins, laid}
 use Rattle.laws.specs.Lists.{listed, within}
 use Rattle.laws.specs.Numbers.{number, inBytes}
 
@@ -38,3 +38,6 @@ byte-at-one s i r r′ p q = p ∙ sym q
 
 pub begins-with-one : (s front : List ℕ) (r r′ : Bool) → r ≡ begins front s → r′ ≡ begins front s → r ≡ r′
 begins-with-one s front r r′ p q = p ∙ sym q
+
+pub lay-one : (d s : List ℕ) (n : ℕ) (x x′ : List ℕ) → x ≡ laid d n s → x′ ≡ laid d n s → x ≡ x′
+lay-one d s n x x′ p q = p ∙ sym q

@@ -1,8 +1,9 @@
-// Leaves that many crates use: two areas compared, numbers listed and bounded, and numbers high byte first.
+// Leaves that many crates use: a byte read at any place, bytes laid over an area, two areas compared, numbers listed and
+// bounded, and numbers high byte first.
 ghost use mathlib.Core.Path.{_≡_};
 ghost use mathlib.Core.List.{[], _∷_};
 ghost use lib.ListN.{getD};
-ghost use Rattle.laws.specs.Bytes.{same, begins};
+ghost use Rattle.laws.specs.Bytes.{same, begins, laid};
 ghost use Rattle.laws.specs.Lists.{listed, within};
 ghost use Rattle.laws.specs.Numbers.{number, inBytes};
 
@@ -106,4 +107,21 @@ pub fn begins_with(s: &[u8], front: &[u8]) -> bool
         return false;
     }
     same_bytes(front, &s[..n])
+}
+
+// Lays bytes over an area from a place on; an area too short for them is left as it is.
+pub fn lay(out: &mut [u8], at: usize, bytes: &[u8])
+    ensures { λ _. ⌜ now (out .exit) ≡ laid (now (out .entry)) at (now (bytes .entry)) ⌝ }
+{
+    if out.len() < bytes.len() {
+        return;
+    }
+    if out.len() - bytes.len() < at {
+        return;
+    }
+    let mut i = 0;
+    while i < bytes.len() {
+        out[at + i] = bytes[i];
+        i += 1;
+    }
 }

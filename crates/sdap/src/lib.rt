@@ -1,6 +1,7 @@
 // The SDAP advert of 122 bytes: its reader and its writer (document 01, "SDAP advert, 122 bytes").
 use octets::bytes2;
 use octets::bytes4;
+use octets::lay;
 use octets::number2;
 use octets::number4;
 use octets::same_bytes;
@@ -121,18 +122,6 @@ fn judge(
         return Answer::EnvelopeWrong;
     }
     Answer::Done
-}
-
-// Lays bytes over an area from a place on.
-fn lay(out: &mut [u8], at: usize, bytes: &[u8])
-    requires { ⌜ at + length (now bytes) ≤ length (now out) ⌝ }
-    ensures { λ _. ⌜ now (out .exit) ≡ over (now (out .entry)) at (now (bytes .entry)) ⌝ }
-{
-    let mut i = 0;
-    while i < bytes.len() {
-        out[at + i] = bytes[i];
-        i += 1;
-    }
 }
 
 // A text's bytes, by value.

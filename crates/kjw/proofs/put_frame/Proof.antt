@@ -5,7 +5,7 @@ use mathlib.Core.List.{[], _∷_}
 use lib.ListN.{length}
 use borrow.Author.Needs.{needs}
 use native.Mathlib.Omega.{arith}
-use Rattle.laws.proofs.Areas.{Laid, laid-next}
+use Rattle.laws.proofs.Areas.{laid-first, laid-more}
 use Rattle.kjw.specs.Frames.{frameOf}
 use Rattle.kjw.proofs.put_frame.Statement.{statement}
 use Rattle.kjw.proofs.put_frame.Tie as tie
@@ -54,10 +54,10 @@ returns c =
     let room = c .before .before .before .before .before .before .before .before .before .before .before .before .before .before .before .before .before .before .before .before .before .pre in
     let l : length (a .t4) ≡ 4 = search needs in
     let q : length (a .t5) ≡ 16 = search needs in
-    let l₁ : Laid d (c .before .before .before .before .before .before .before .before .before .before .before .before .before .before .before .before .before .lay .last .0) (a .at) (42 ∷ 83 ∷ a .kind ∷ []) (a .at + 3) = record { is = c .before .before .before .before .before .before .before .before .before .before .before .before .before .before .before .before .before .lay .ensures; end = refl } in
-    let l₂ = laid-next (c .before .before .before .before .before .before .before .before .before .before .before .before .lay2 .last .0) (a .t4) 4 (a .at + 7) l₁ (c .before .before .before .before .before .before .before .before .before .before .before .before .lay2 .ensures) l (omega arith) (omega arith) in
-    let l₃ = laid-next (c .before .before .before .before .before .before .before .lay3 .last .0) (a .t5) 16 (a .at + 23) l₂ (c .before .before .before .before .before .before .before .lay3 .ensures) q (omega arith) (omega arith) in
-    laid-next (c .before .before .lay4 .last .0) (10 ∷ []) 1 (a .at + 24) l₃ (c .before .before .lay4 .ensures) refl (omega arith) (omega arith) .is
+    let l₁ = laid-first (c .before .before .before .before .before .before .before .before .before .before .before .before .before .before .before .before .before .lay .last .0) (42 ∷ 83 ∷ a .kind ∷ []) 3 (a .at + 3) (c .before .before .before .before .before .before .before .before .before .before .before .before .before .before .before .before .before .lay .ensures) refl refl (omega arith) in
+    let l₂ = laid-more (c .before .before .before .before .before .before .before .before .before .before .before .before .lay2 .last .0) (a .t4) 4 (a .at + 7) l₁ (c .before .before .before .before .before .before .before .before .before .before .before .before .lay2 .ensures) l (omega arith) (omega arith) in
+    let l₃ = laid-more (c .before .before .before .before .before .before .before .lay3 .last .0) (a .t5) 16 (a .at + 23) l₂ (c .before .before .before .before .before .before .before .lay3 .ensures) q (omega arith) (omega arith) in
+    laid-more (c .before .before .lay4 .last .0) (10 ∷ []) 1 (a .at + 24) l₃ (c .before .before .lay4 .ensures) refl (omega arith) (omega arith) .is
 
 pub put-frame-spec : {M : Type 1} → statement M
 put-frame-spec =

@@ -1,13 +1,11 @@
 -- `put_addresses` lays its five numbers one behind the other.
-use Prim.Native.Nat.{ℕ, _+_}
 use mathlib.Core.Path.{refl, ap, _∙_}
 use lib.ListN.{getD}
 use borrow.Author.Needs.{needs}
 use native.Mathlib.Omega.{arith}
-use denote.Ref.{now}
-use Rattle.laws.specs.Bytes.{over}
+use Rattle.laws.specs.Bytes.{laid}
 use Rattle.laws.specs.Numbers.{inBytes}
-use Rattle.laws.proofs.Areas.{Laid, laid-next}
+use Rattle.laws.proofs.Areas.{laid-first, laid-more}
 use Rattle.laws.proofs.Numbers.{length-in-bytes}
 use Rattle.sdap.proofs.put_addresses.Statement.{statement}
 use Rattle.sdap.proofs.put_addresses.Tie as tie
@@ -85,11 +83,11 @@ returns c =
     let v = st .args .connected in
     let i = st .args .t3 in
     let room = st .pre in
-    let l1 : Laid d (z1 .lay .last .0) 50 (inBytes 4 v) 54 = record { is = z1 .lay .ensures ∙ ap (over d 50) (b .before .before .before .before .bytes4 .ensures); end = ap (λ (k : ℕ). 50 + k) (length-in-bytes 4 v) } in
-    let l2 = laid-next (z2 .lay2 .last .0) (inBytes 4 (getD i 0 0)) 4 58 l1 (z2 .lay2 .ensures ∙ ap (over (z1 .lay .last .0) 54) (b .before .before .before .bytes42 .ensures)) (length-in-bytes 4 (getD i 0 0)) refl (omega arith) in
-    let l3 = laid-next (z3 .lay3 .last .0) (inBytes 4 (getD i 1 0)) 4 62 l2 (z3 .lay3 .ensures ∙ ap (over (z2 .lay2 .last .0) 58) (b .before .before .bytes43 .ensures)) (length-in-bytes 4 (getD i 1 0)) refl (omega arith) in
-    let l4 = laid-next (z4 .lay4 .last .0) (inBytes 4 (getD i 2 0)) 4 66 l3 (z4 .lay4 .ensures ∙ ap (over (z3 .lay3 .last .0) 62) (b .before .bytes44 .ensures)) (length-in-bytes 4 (getD i 2 0)) refl (omega arith) in
-    laid-next (z5 .lay5 .last .0) (inBytes 4 (getD i 3 0)) 4 70 l4 (z5 .lay5 .ensures ∙ ap (over (z4 .lay4 .last .0) 66) (b .bytes45 .ensures)) (length-in-bytes 4 (getD i 3 0)) refl (omega arith) .is
+    let l1 = laid-first (z1 .lay .last .0) (inBytes 4 v) 4 54 (z1 .lay .ensures ∙ ap (laid d 50) (b .before .before .before .before .bytes4 .ensures)) (length-in-bytes 4 v) refl (omega arith) in
+    let l2 = laid-more (z2 .lay2 .last .0) (inBytes 4 (getD i 0 0)) 4 58 l1 (z2 .lay2 .ensures ∙ ap (laid (z1 .lay .last .0) 54) (b .before .before .before .bytes42 .ensures)) (length-in-bytes 4 (getD i 0 0)) refl (omega arith) in
+    let l3 = laid-more (z3 .lay3 .last .0) (inBytes 4 (getD i 1 0)) 4 62 l2 (z3 .lay3 .ensures ∙ ap (laid (z2 .lay2 .last .0) 58) (b .before .before .bytes43 .ensures)) (length-in-bytes 4 (getD i 1 0)) refl (omega arith) in
+    let l4 = laid-more (z4 .lay4 .last .0) (inBytes 4 (getD i 2 0)) 4 66 l3 (z4 .lay4 .ensures ∙ ap (laid (z3 .lay3 .last .0) 62) (b .before .bytes44 .ensures)) (length-in-bytes 4 (getD i 2 0)) refl (omega arith) in
+    laid-more (z5 .lay5 .last .0) (inBytes 4 (getD i 3 0)) 4 70 l4 (z5 .lay5 .ensures ∙ ap (laid (z4 .lay4 .last .0) 66) (b .bytes45 .ensures)) (length-in-bytes 4 (getD i 3 0)) refl (omega arith) .is
 
 pub put-addresses-spec : {M : Type 1} → statement M
 put-addresses-spec =

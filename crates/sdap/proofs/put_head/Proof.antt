@@ -3,10 +3,9 @@ use mathlib.Core.Path.{refl, ap, _∙_}
 use mathlib.Core.List.{[], _∷_}
 use borrow.Author.Needs.{needs}
 use native.Mathlib.Omega.{arith}
-use denote.Ref.{now}
-use Rattle.laws.specs.Bytes.{over}
+use Rattle.laws.specs.Bytes.{laid}
 use Rattle.laws.specs.Numbers.{inBytes}
-use Rattle.laws.proofs.Areas.{Laid, laid-next}
+use Rattle.laws.proofs.Areas.{laid-first, laid-more}
 use Rattle.laws.proofs.Numbers.{length-in-bytes}
 use Rattle.sdap.proofs.put_head.Statement.{statement}
 use Rattle.sdap.proofs.put_head.Tie as tie
@@ -56,11 +55,11 @@ returns c =
     let a = st .args in
     let d = a .out .now in
     let room = st .pre .0 in
-    let l1 : Laid d (z1 .lay .last .0) 0 (68 ∷ 65 ∷ 4 ∷ a .category ∷ 83 ∷ 79 ∷ 78 ∷ 89 ∷ []) 8 = record { is = z1 .lay .ensures; end = refl } in
-    let l2 = laid-next (z2 .lay2 .last .0) (a .product .now) 12 20 l1 (z2 .lay2 .ensures) (st .pre .1 .0) refl (omega arith) in
-    let l3 = laid-next (z3 .lay3 .last .0) (inBytes 4 (a .serial)) 4 24 l2 (z3 .lay3 .ensures ∙ ap (over (z2 .lay2 .last .0) 20) (b2 .before .bytes4 .ensures)) (length-in-bytes 4 (a .serial)) refl (omega arith) in
-    let l4 = laid-next (z4 .lay4 .last .0) (inBytes 2 (a .power)) 2 26 l3 (z4 .lay4 .ensures ∙ ap (over (z3 .lay3 .last .0) 24) (b2 .bytes2 .ensures)) (length-in-bytes 2 (a .power)) refl (omega arith) in
-    laid-next (z5 .lay5 .last .0) (a .location .now) 24 50 l4 (z5 .lay5 .ensures) (st .pre .1 .1) refl (omega arith) .is
+    let l1 = laid-first (z1 .lay .last .0) (68 ∷ 65 ∷ 4 ∷ a .category ∷ 83 ∷ 79 ∷ 78 ∷ 89 ∷ []) 8 8 (z1 .lay .ensures) refl refl (omega arith) in
+    let l2 = laid-more (z2 .lay2 .last .0) (a .product .now) 12 20 l1 (z2 .lay2 .ensures) (st .pre .1 .0) refl (omega arith) in
+    let l3 = laid-more (z3 .lay3 .last .0) (inBytes 4 (a .serial)) 4 24 l2 (z3 .lay3 .ensures ∙ ap (laid (z2 .lay2 .last .0) 20) (b2 .before .bytes4 .ensures)) (length-in-bytes 4 (a .serial)) refl (omega arith) in
+    let l4 = laid-more (z4 .lay4 .last .0) (inBytes 2 (a .power)) 2 26 l3 (z4 .lay4 .ensures ∙ ap (laid (z3 .lay3 .last .0) 24) (b2 .bytes2 .ensures)) (length-in-bytes 2 (a .power)) refl (omega arith) in
+    laid-more (z5 .lay5 .last .0) (a .location .now) 24 50 l4 (z5 .lay5 .ensures) (st .pre .1 .1) refl (omega arith) .is
 
 pub put-head-spec : {M : Type 1} → statement M
 put-head-spec =

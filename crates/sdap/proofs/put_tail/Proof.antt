@@ -1,13 +1,11 @@
 -- `put_tail` lays its four fields one behind the other.
-use Prim.Native.Nat.{ℕ, _+_}
 use mathlib.Core.Path.{refl, ap, _∙_}
 use mathlib.Core.List.{[], _∷_}
 use borrow.Author.Needs.{needs}
 use native.Mathlib.Omega.{arith}
-use denote.Ref.{now}
-use Rattle.laws.specs.Bytes.{over}
+use Rattle.laws.specs.Bytes.{laid}
 use Rattle.laws.specs.Numbers.{inBytes}
-use Rattle.laws.proofs.Areas.{Laid, laid-next}
+use Rattle.laws.proofs.Areas.{laid-first, laid-more}
 use Rattle.laws.proofs.Numbers.{length-in-bytes}
 use Rattle.sdap.proofs.put_tail.Statement.{statement}
 use Rattle.sdap.proofs.put_tail.Tie as tie
@@ -47,10 +45,10 @@ returns c =
     let a = st .args in
     let d = a .out .now in
     let room = st .pre .0 in
-    let l1 : Laid d (z1 .lay .last .0) 70 (inBytes 2 (a .error)) 72 = record { is = z1 .lay .ensures ∙ ap (over d 70) (b .bytes2 .ensures); end = ap (λ (k : ℕ). 70 + k) (length-in-bytes 2 (a .error)) } in
-    let l2 = laid-next (z2 .lay2 .last .0) (a .region .now) 24 96 l1 (z2 .lay2 .ensures) (st .pre .1 .0) refl (omega arith) in
-    let l3 = laid-next (z3 .lay3 .last .0) (a .name .now) 24 120 l2 (z3 .lay3 .ensures) (st .pre .1 .1) refl (omega arith) in
-    laid-next (z4 .lay4 .last .0) (a .group .0 ∷ a .unit .0 ∷ []) 2 122 l3 (z4 .lay4 .ensures) refl refl (omega arith) .is
+    let l1 = laid-first (z1 .lay .last .0) (inBytes 2 (a .error)) 2 72 (z1 .lay .ensures ∙ ap (laid d 70) (b .bytes2 .ensures)) (length-in-bytes 2 (a .error)) refl (omega arith) in
+    let l2 = laid-more (z2 .lay2 .last .0) (a .region .now) 24 96 l1 (z2 .lay2 .ensures) (st .pre .1 .0) refl (omega arith) in
+    let l3 = laid-more (z3 .lay3 .last .0) (a .name .now) 24 120 l2 (z3 .lay3 .ensures) (st .pre .1 .1) refl (omega arith) in
+    laid-more (z4 .lay4 .last .0) (a .group .0 ∷ a .unit .0 ∷ []) 2 122 l3 (z4 .lay4 .ensures) refl refl (omega arith) .is
 
 pub put-tail-spec : {M : Type 1} → statement M
 put-tail-spec =

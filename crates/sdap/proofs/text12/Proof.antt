@@ -1,9 +1,9 @@
 -- `text12` lays 12 bytes over 12 bytes, so they stand alone.
 use mathlib.Core.Path.{sym, _∙_}
 use lib.ListN.{replicate}
+use native.Mathlib.Omega.{arith}
 use borrow.Author.Needs.{needs}
-use denote.Ref.{now}
-use Rattle.laws.proofs.Areas.{over-whole}
+use Rattle.laws.proofs.Areas.{laid-fits, over-whole}
 use Rattle.sdap.proofs.text12.Statement.{statement}
 use Rattle.sdap.proofs.text12.Tie as tie
 
@@ -16,7 +16,8 @@ lay-requires c κs = search needs
 returns : tie.Need-returns
 returns c =
     let t = c .before .before .before .before .args .t .now in
-    c .before .lay .ensures ∙ over-whole (replicate 12 0) t (sym (c .before .before .before .before .pre))
+    let size = c .before .before .before .before .pre in
+    c .before .lay .ensures ∙ laid-fits (replicate 12 0) 0 t (omega arith) ∙ over-whole (replicate 12 0) t (sym size)
 
 pub text12-spec : {M : Type 1} → statement M
 text12-spec = tie.close (tie.spec slice-aggregate-lay lay-requires returns)
