@@ -1,12 +1,14 @@
 -- Fields laid one behind the other are one field, and a copying loop lays what it copied: `paste` grows by a byte a turn.
-use mathlib.Core.Path.{_≡_, sym, ap, _∙_}
-use mathlib.Core.List.{List, _++_, append-assoc, append-nil}
+use mathlib.Core.Path.{_≡_, refl, sym, ap, _∙_}
+use mathlib.Core.Bool.{Bool, true, false, cond}
+use mathlib.Core.List.{List, [], _++_, append-assoc, append-nil}
 use Prim.Native.Nat.{ℕ, _+_, _≤_, _<_}
 use native.Mathlib.Omega.{arith}
-use native.Mathlib.Nat.{zero-add}
+use native.Mathlib.Nat.{zero-add, add-zero}
 use native.Mathlib.Numerals.{add-one}
-use lib.ListN.{length, getD, take, drop, set, length-append, length-take, length-drop, drop-of-length-le}
+use lib.ListN.{length, getD, take, drop, set, length-append, length-take, length-drop, drop-of-length-le, take-append-drop}
 use lib.Seq.{paste, paste-suc, take-at, drop-append-add, drop-drop, length-take-le, take-length}
+use lib.Dec.{leb}
 use borrow.Author.Tests.{le-leb, lt-leb}
 use Rattle.laws.specs.Bytes.{over, laid, sent}
 
@@ -44,6 +46,17 @@ laid-fits d n vs h = rw (le-leb (n + length vs) (length d) h)
 pub laid-short : (d : List ℕ) (n : ℕ) (vs : List ℕ) → length d < n + length vs → laid d n vs ≡ d
 unfolding laid
 laid-short d n vs h = rw (lt-leb (n + length vs) (length d) h)
+
+-- nothing laid over an area leaves it
+pub laid-none : (d : List ℕ) (n : ℕ) → laid d n [] ≡ d
+unfolding laid
+laid-none d n =
+    let e : take n d ++ [] ++ drop (n + 0) d ≡ d = rw (append-nil, add-zero) (take-append-drop n d) in
+    both (leb (n + 0) (length d)) (take n d ++ [] ++ drop (n + 0) d) e
+  where
+    both : (b : Bool) (e : List ℕ) → e ≡ d → cond b e d ≡ d
+    both true e q = q
+    both false e q = refl
 
 -- what is laid over an area leaves its length
 over-length : (d : List ℕ) (n : ℕ) (vs : List ℕ) → n + length vs ≤ length d → length (over d n vs) ≡ length d

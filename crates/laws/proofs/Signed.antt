@@ -1,10 +1,14 @@
 -- Signed numbers: in a range both bounds are asked in turn, of the number that the bits say; and 0 less a size is below 0.
-use mathlib.Core.Path.{_≡_, sym, ap, _∙_}
+use mathlib.Core.Path.{_≡_, refl, sym, ap, subst, _∙_}
 use mathlib.Core.Bool.{true, false, _&&_}
-use Prim.Native.Nat.{ℕ, zero, suc, _-_, _<_}
+use Prim.Native.Nat.{ℕ, zero, suc, _-_, _^_, _<_}
 use native.Mathlib.Omega.{arith}
-use lib.IntN.{ℤ, pos, negsuc, _-ℤ_, +ℤ-idl}
+use lib.Dec.{leb·zero}
+use lib.IntN.{ℤ, pos, negsuc, sucℤ, _+ℤ_, _-ℤ_, +ℤ-one, +ℤ-idl}
 use lib.Signed.{leZ}
+use mir.Syntax.{Width}
+use mir.Val.{toZ, ofZ, SFits, hbits}
+use mir.Facts.{toZ-ofZ}
 
 -- z is the number, t what its bits say
 pub from-low : (lo hi z t : ℤ) → t ≡ z → leZ lo t ≡ true → leZ t hi ≡ (leZ lo z && leZ z hi)
@@ -17,3 +21,43 @@ under-low lo hi z t e p = rw (ap (leZ lo) (sym e) ∙ p)
 pub zero-less : (n : ℕ) → 0 < n → pos 0 -ℤ pos n ≡ negsuc (n - 1)
 zero-less zero h = absurd (omega arith)
 zero-less (suc n) h = +ℤ-idl (negsuc n) ∙ ap negsuc (omega arith)
+
+-- a number that is not below 0, and one that is
+pub from-zero : (z : ℤ) → leZ (pos 0) z ≡ true → (n : ℕ) × (z ≡ pos n)
+from-zero (pos n) e = (n, refl)
+from-zero (negsuc n) e = let b : _≡_ {A = ℕ} 0 1 = cc in let w : ⊥ = omega arith in absurd w
+
+pub under-zero : (z : ℤ) → leZ (pos 0) z ≡ false → (n : ℕ) × (z ≡ negsuc n)
+under-zero (pos n) e = let t = leb·zero n in let b : _≡_ {A = ℕ} 0 1 = cc in let w : ⊥ = omega arith in absurd w
+under-zero (negsuc n) e = (n, refl)
+
+-- 0 less one more than a number below 0 is that number's distance from -1
+next-up : (k : ℕ) → pos 0 -ℤ sucℤ (negsuc k) ≡ pos k
+next-up zero = refl
+next-up (suc k) = +ℤ-idl (pos (suc k))
+
+up-fits : (w : Width) (k : ℕ) → k < 2 ^ hbits w → SFits w (sucℤ (negsuc k))
+up-fits w zero h = record { sfits = h }
+up-fits w (suc k) h = record { sfits = omega arith }
+
+-- that distance, as code of any width computes it
+module _ (w : Width) (z : ℤ) (k : ℕ) (f : SFits w z) (e : z ≡ negsuc k) where
+  pub small : k < 2 ^ hbits w
+  small = let g : SFits w (negsuc k) = subst (SFits w) e f in g .sfits
+
+  one-more : toZ w (ofZ w z) +ℤ pos 1 ≡ sucℤ (negsuc k)
+  one-more = ap (λ (y : ℤ). y +ℤ pos 1) (toZ-ofZ f ∙ e) ∙ +ℤ-one (negsuc k)
+
+  pub add-fits : SFits w (toZ w (ofZ w z) +ℤ pos 1)
+  add-fits = subst (SFits w) (sym one-more) (up-fits w k small)
+
+  distance : pos 0 -ℤ toZ w (ofZ w (toZ w (ofZ w z) +ℤ pos 1)) ≡ pos k
+  distance = ap (λ (y : ℤ). pos 0 -ℤ y) (toZ-ofZ add-fits ∙ one-more) ∙ next-up k
+
+  pub sub-fits : SFits w (pos 0 -ℤ toZ w (ofZ w (toZ w (ofZ w z) +ℤ pos 1)))
+  sub-fits =
+      let g : SFits w (pos k) = record { sfits = small } in
+      subst (SFits w) (sym distance) g
+
+  pub distance-is : toZ w (ofZ w (pos 0 -ℤ toZ w (ofZ w (toZ w (ofZ w z) +ℤ pos 1)))) ≡ pos k
+  distance-is = toZ-ofZ sub-fits ∙ distance

@@ -6,7 +6,7 @@ use mathlib.Core.List.{List, [], _∷_, _++_, map}
 use native.Mathlib.Omega.{arith}
 use native.Mathlib.Nat.{add-zero, add-assoc}
 use lib.Dec.{T, eqb, leb, eqb→eq, leb→le}
-use lib.ListN.{length, getD, take, replicate, List·getD-map}
+use lib.ListN.{length, getD, take, drop, replicate, List·getD-map, List·getD-eq-default}
 use Rattle.laws.specs.Bytes.{same}
 use Rattle.laws.specs.Lists.{everyBelow}
 use Rattle.laws.proofs.Lists.{same-is}
@@ -125,3 +125,28 @@ wordRows k = everyBelow (length (wordsOf k)) (wordRow k)
 pub word-row : (k v : ℕ) → k < 23 → v < length (wordsOf k) → bareOf (getD firsts k 0 + v) ≡ wordOf k v
 unfolding wordRow wordRows
 word-row k v h l = same-is _ _ (sure _ (below (length (wordsOf k)) (wordRow k) (below 23 wordRows tt k h) v l))
+
+-- the row of a word has nothing behind it
+wordText : ℕ → ℕ → Bool
+wordText k v = same (textOf (getD firsts k 0 + v)) (wordOf k v)
+
+wordTexts : ℕ → Bool
+wordTexts k = everyBelow (length (wordsOf k)) (wordText k)
+
+pub word-text : (k v : ℕ) → k < 23 → v < getD counts k 0 → textOf (getD firsts k 0 + v) ≡ wordOf k v
+unfolding wordText wordTexts
+word-text k v h l =
+    let e = count-is k h in
+    same-is _ _ (sure _ (below (length (wordsOf k)) (wordText k) (below 23 wordTexts tt k h) v (omega (arith, l, e))))
+
+-- a value that a setting does not have has no word
+pub no-word : (k v : ℕ) → k < 23 → getD counts k 0 ≤ v → wordOf k v ≡ []
+no-word k v h l = let e = count-is k h in List·getD-eq-default (wordsOf k) [] (omega (arith, l, e))
+
+-- a row's text stands at its front
+rowFront : ℕ → Bool
+rowFront row = same (take (length (textOf row)) (drop (row * 13) rows)) (textOf row)
+
+pub row-front : (row : ℕ) → row < 32 → take (length (textOf row)) (drop (row * 13) rows) ≡ textOf row
+unfolding rowFront
+row-front row h = same-is _ _ (sure _ (below 32 rowFront tt row h))

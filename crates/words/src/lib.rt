@@ -1,8 +1,10 @@
-// The words of the settings: which setting a name is, and which of its values a word is (document 01, "SDCP and VMC").
+// The words of the settings: which setting a name is, which of its values a word is, and the texts themselves (document 01,
+// "SDCP and VMC").
+use octets::lay;
 ghost use mathlib.Core.Path.{_≡_};
 ghost use Prim.Native.Nat.{ℕ, _+_, _*_, _<_, _≤_};
 ghost use lib.ListN.{length, take};
-ghost use Rattle.laws.specs.Bytes.{begins};
+ghost use Rattle.laws.specs.Bytes.{begins, laid};
 ghost use Rattle.words.specs.Names.{leadOf, wordsOf, wordOf, firstOf, namedBy, ledBy, chosenBy};
 ghost use Rattle.words.specs.Rows.{textOf, bareOf, meets};
 
@@ -253,4 +255,51 @@ pub fn lead_length(k: usize) -> usize
         return 0;
     }
     LENGTHS[k]
+}
+
+// A row's text, laid over an area from a place on.
+fn put_row(out: &mut [u8], at: usize, row: usize)
+    requires { ⌜ row < 32 ⌝ }
+    ensures { λ _. ⌜ now (out .exit) ≡ laid (now (out .entry)) at (textOf row) ⌝ }
+{
+    let texts = TEXTS;
+    let from = row * 13;
+    let to = from + LENGTHS[row];
+    lay(out, at, &texts[from..to]);
+}
+
+// A name with what parts it from its value, laid over an area from a place on.
+pub fn put_lead(out: &mut [u8], at: usize, k: usize)
+    ensures { λ _. ⌜ now (out .exit) ≡ laid (now (out .entry)) at (leadOf k) ⌝ }
+{
+    if 23 <= k {
+        return;
+    }
+    put_row(out, at, k);
+}
+
+// The word of setting k's value v, laid over an area from a place on.
+pub fn put_word(out: &mut [u8], at: usize, k: usize, v: usize)
+    ensures { λ _. ⌜ now (out .exit) ≡ laid (now (out .entry)) at (wordOf k v) ⌝ }
+{
+    if 23 <= k {
+        return;
+    }
+    if COUNT[k] <= v {
+        return;
+    }
+    put_row(out, at, FIRST[k] + v);
+}
+
+// The length of that word; 0 where there is none.
+pub fn word_length(k: usize, v: usize) -> usize
+    ensures { λ r. ⌜ r ≡ length (wordOf k v) ⌝ }
+{
+    if 23 <= k {
+        return 0;
+    }
+    if COUNT[k] <= v {
+        return 0;
+    }
+    LENGTHS[FIRST[k] + v]
 }

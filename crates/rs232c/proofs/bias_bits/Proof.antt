@@ -8,7 +8,7 @@ use lib.Signed.{leZ}
 use mir.Syntax.{w16}
 use mir.Facts.{toZ-ofZ}
 use Rattle.rs232c.specs.Replies.{biasBits}
-use Rattle.rs232c.proofs.Signed.{from-zero, under-zero, small, add-fits, sub-fits, distance-is}
+use Rattle.laws.proofs.Signed.{from-zero, under-zero, small, add-fits, sub-fits, distance-is}
 use mir.Val.{toZ, ofZ, SFits}
 use Rattle.rs232c.proofs.bias_bits.Statement.{statement}
 use Rattle.rs232c.proofs.bias_bits.Tie as tie
@@ -39,7 +39,7 @@ add-y c =
     let f = c .before .fits .z in
     let t : leZ (pos 0) z ≡ false = ap (leZ (pos 0)) (sym (toZ-ofZ f)) ∙ c .if1 .left in
     let (k, e) = under-zero z t in
-    add-fits z k f e
+    add-fits w16 z k f e
 
 sub-y : tie.Need-sub-y
 sub-y c =
@@ -47,7 +47,7 @@ sub-y c =
     let f = c .before .fits .z in
     let t : leZ (pos 0) z ≡ false = ap (leZ (pos 0)) (sym (toZ-ofZ f)) ∙ c .if1 .left in
     let (k, e) = under-zero z t in
-    sub-fits z k f e
+    sub-fits w16 z k f e
 
 cast-result-2 : tie.Need-cast-result-2
 cast-result-2 c =
@@ -55,8 +55,8 @@ cast-result-2 c =
     let f = c .before .fits .z in
     let t : leZ (pos 0) z ≡ false = ap (leZ (pos 0)) (sym (toZ-ofZ f)) ∙ c .if1 .left in
     let (k, e) = under-zero z t in
-    let h = small z k f e in
-    rw (distance-is z k f e) (tt, record { fits = omega arith })
+    let h = small w16 z k f e in
+    rw (distance-is w16 z k f e) (tt, record { fits = omega arith })
 
 sub-result : tie.Need-sub-result
 sub-result c = search needs
@@ -68,7 +68,7 @@ returns-2 c =
     let f = c .before .fits .z in
     let t : leZ (pos 0) z ≡ false = ap (leZ (pos 0)) (sym (toZ-ofZ f)) ∙ c .if1 .left in
     let (k, e) = under-zero z t in
-    rw (distance-is z k f e) (sym (ap biasBits e))
+    rw (distance-is w16 z k f e) (sym (ap biasBits e))
 
 pub bias-bits-spec : {M : Type 1} → statement M
 bias-bits-spec =
