@@ -1,12 +1,12 @@
 -- STATget's words, put behind `STATset `, set the value that they tell: computed for every setting and every value it may hold.
-use Prim.Native.Nat.{ℕ, zero, suc, _+_, _-_, _<_, _≤_}
-use mathlib.Core.Path.{_≡_, refl, sym, ap, subst, _∙_}
-use mathlib.Core.Bool.{Bool, true, false, not, cond, _&&_, _||_}
-use mathlib.Core.List.{List, [], _∷_, _++_}
+use Prim.Native.Nat.{ℕ, _+_, _<_, _≤_}
+use mathlib.Core.Path.{_≡_, refl, ap, subst, _∙_}
+use mathlib.Core.Bool.{Bool, true, false, not, _&&_, _||_}
+use mathlib.Core.List.{_++_}
 use native.Mathlib.Omega.{arith}
-use lib.Dec.{T, eqb, leb, ltb, eqb→eq}
+use lib.Dec.{T, eqb, leb, eqb→eq}
 use borrow.Author.Tests.{leb-true, ne-eqb}
-use lib.ListN.{length, getD}
+use lib.ListN.{getD}
 use lib.IntN.{ℤ, pos, negsuc}
 use Rattle.laws.specs.Bytes.{ascii, same, begins}
 use Rattle.laws.specs.Lists.{everyBelow}
@@ -18,7 +18,6 @@ use Rattle.settings.specs.Table.{mosts}
 use Rattle.words.specs.Names.{nameOf, leadOf, namedBy, ledBy, chosenBy}
 use Rattle.vmc.specs.Reading.{leadsZero, isNumeral, levelOf, shiftOrder, valueOrder, readSet, readGet, readData}
 use Rattle.vmc.specs.Texts.{valueWords, shiftWords, setWords, moveWords}
-use Rattle.vmc.specs.declared.Order.{Order}
 use Rattle.vmc.specs.declared.Order.the-variants.{Set, Shift, Reset, Get}
 use Rattle.vmc.specs.declared.Words.{Words}
 use Rattle.vmc.specs.declared.Words.the-variants.{Understood, Strange}

@@ -1,12 +1,12 @@
 -- Levels: four digits without a leading zero are over 100, and up to three are read as the number reader reads them.
-use Prim.Native.Nat.{ℕ, zero, suc, _+_, _-_, _*_, _^_, _<_, _≤_}
+use Prim.Native.Nat.{ℕ, zero, _-_, _*_, _^_, _<_, _≤_}
 use mathlib.Core.Path.{_≡_, refl, sym, ap, _∙_}
 use mathlib.Core.Bool.{Bool, true, false, not, cond, _&&_}
 use mathlib.Core.List.{List, [], _∷_}
 use native.Mathlib.Omega.{arith}
-use native.Mathlib.Nat.{pow-le-pow-right, mul-le-mul-right, le-trans, one-mul}
+use native.Mathlib.Nat.{pow-le-pow-right, mul-le-mul-right, one-mul}
 use lib.Dec.{eqb, leb}
-use lib.ListN.{length, getD}
+use lib.ListN.{length}
 use borrow.Author.Tests.{le-leb, lt-leb, leb-true, ne-eqb, eqb-false}
 use Rattle.laws.specs.Lists.{every}
 use Rattle.laws.proofs.Conditions.{and-first, and-second, false-true}

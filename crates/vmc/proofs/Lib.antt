@@ -2,4 +2,5 @@ pub mod Back
 pub mod Determined
 mod Levels
 pub mod Only
+mod Phrases
 mod Signs

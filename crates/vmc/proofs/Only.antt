@@ -5,7 +5,7 @@ use mathlib.Core.Path.{_≡_, refl, sym, ap, subst, _∙_}
 use mathlib.Core.Bool.{Bool, true, false, cond, _&&_, _||_}
 use mathlib.Core.List.{List, [], _∷_, _++_}
 use native.Mathlib.Omega.{arith}
-use lib.Dec.{T, eqb, leb, ltb, eqb→eq, leb→le}
+use lib.Dec.{T, eqb, leb, ltb, eqb→eq}
 use lib.ListN.{length, getD, drop}
 use lib.IntN.{ℤ, pos, negsuc}
 use borrow.Author.Tests.{leb-true, le-leb, lt-ltb, le-ltb, ltb-true, ltb-false, ne-eqb}
@@ -14,18 +14,18 @@ use Rattle.laws.proofs.Conditions.{and-first, and-second, false-true}
 use Rattle.laws.proofs.Lists.{same-is}
 use Rattle.laws.proofs.Table.{below}
 use Rattle.laws.proofs.Texts.{begins-front}
-use Rattle.numbers.specs.Decimals.{decimal, inDigits, numeral}
+use Rattle.numbers.specs.Decimals.{decimal, numeral}
 use Rattle.numbers.specs.declared.Number.{Number}
 use Rattle.numbers.specs.declared.Number.the-variants.{Is, Not}
 use Rattle.numbers.proofs.Decimals.{decimal-fits, in-digits-decimal}
 use Rattle.settings.specs.Table.{mosts}
 use Rattle.panels.specs.Valid.{okShift}
-use Rattle.words.specs.Names.{nameOf, leadOf, wordsOf, wordOf, firstOf, namedBy, ledBy, chosenBy}
+use Rattle.words.specs.Names.{nameOf, leadOf, wordsOf, wordOf, namedBy, ledBy, chosenBy}
 use Rattle.words.specs.declared.Found.{Found}
 use Rattle.words.specs.declared.Found.the-variants.{At, Nothing}
 use Rattle.words.proofs.Search.{Right, first-right}
 use Rattle.words.proofs.Choices.{led-right}
-use Rattle.vmc.specs.Reading.{isNumeral, levelOf, levelOrder, choiceOrder, signed, shiftBy, shiftOrder, valueOrder, setOrder, readSet, getOrder, readGet, readData}
+use Rattle.vmc.specs.Reading.{isNumeral, levelOf, levelOrder, choiceOrder, shiftBy, shiftOrder, valueOrder, setOrder, readSet, getOrder, readGet, readData}
 use Rattle.vmc.specs.Texts.{valueWords, shiftWords, setWords, moveWords}
 use Rattle.vmc.specs.declared.Order.{Order}
 use Rattle.vmc.specs.declared.Order.the-variants.{Set, Shift, Reset, Get}
@@ -159,7 +159,7 @@ minus axis t u h f (Is (suc n)) r = pick (Spoken (leadOf (21 + axis) ++ t)) (leb
     go : (leb 1 (suc n) && leb (suc n) 30) ≡ true → Spoken (leadOf (21 + axis) ++ t) (Shift axis (negsuc n))
     go e =
         let l = leb-true (suc n) 30 (and-second (leb 1 (suc n)) (leb (suc n) 30) e) in
-        let w : shiftWords (negsuc n) ≡ t = ap (λ (m : ℕ). ascii "-" ++ numeral m) (let q : n + 1 ≡ suc n = omega arith in q) ∙ sym (f ∙ ap (λ (y : List ℕ). ascii "-" ++ y) (r .spelt)) in
+        let w : shiftWords (negsuc n) ≡ t = rw (ne-eqb (n + 1) 0 (λ z. omega arith)) (ap (λ (m : ℕ). ascii "-" ++ numeral m) (let q : n + 1 ≡ suc n = omega arith in q)) ∙ sym (f ∙ ap (λ (y : List ℕ). ascii "-" ++ y) (r .spelt)) in
         subst (λ (y : List ℕ). Spoken (leadOf (21 + axis) ++ y) (Shift axis (negsuc n))) w (moves axis (negsuc n) h (rw (le-leb n 29 (omega arith))))
 minus axis t u h f Not r = tt
 

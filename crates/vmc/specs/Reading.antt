@@ -13,7 +13,6 @@ use Rattle.numbers.specs.declared.Number.the-variants.{Is, Not}
 use Rattle.words.specs.Names.{leadOf, namedBy, ledBy, chosenBy}
 use Rattle.words.specs.declared.Found.{Found}
 use Rattle.words.specs.declared.Found.the-variants.{At, Nothing}
-use Rattle.vmc.specs.declared.Order.{Order}
 use Rattle.vmc.specs.declared.Order.the-variants.{Set, Shift, Reset, Get}
 use Rattle.vmc.specs.declared.Words.{Words}
 use Rattle.vmc.specs.declared.Words.the-variants.{Understood, Strange}

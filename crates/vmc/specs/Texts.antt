@@ -17,10 +17,18 @@ use Rattle.vmc.specs.declared.Text.{Text}
 unfoldable pub valueWords : ℕ → ℕ → List ℕ
 valueWords k v = cond (ltb k 3) (numeral v) (wordOf k v)
 
--- the words of a shift: signed, save 0
+-- a shift's size and sign
+abbrev pub sizeOf : ℤ → ℕ
+sizeOf (pos n) = n
+sizeOf (negsuc n) = n + 1
+
+abbrev pub signOf : ℤ → ℕ
+signOf (pos n) = 0x2b
+signOf (negsuc n) = 0x2d
+
+-- the words of a shift: its sign and its size, save 0
 unfoldable pub shiftWords : ℤ → List ℕ
-shiftWords (pos n) = cond (eqb n 0) (ascii "0") (ascii "+" ++ numeral n)
-shiftWords (negsuc n) = ascii "-" ++ numeral (n + 1)
+shiftWords z = cond (eqb (sizeOf z) 0) (ascii "0") (signOf z ∷ numeral (sizeOf z))
 
 -- the words that would set a value
 unfoldable pub setWords : ℕ → ℕ → List ℕ
@@ -34,6 +42,9 @@ textOf Bare = []
 textOf (Value k v) = setWords k v
 textOf (Offset k z) = moveWords k z
 
--- the same at the front of twenty bytes, with its length
-unfoldable pub spelled : Told → Text
-spelled t = record { bytes = textOf t ++ replicate (20 - length (textOf t)) 0; len = length (textOf t) }
+-- words at the front of twenty bytes, with their length
+unfoldable pub textual : List ℕ → Text
+textual l = record { bytes = l ++ replicate (20 - length l) 0; len = length l }
+
+abbrev pub spelled : Told → Text
+spelled t = textual (textOf t)

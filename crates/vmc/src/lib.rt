@@ -1,8 +1,10 @@
 // VMC: what the words of a packet's data ask of a W panel, and the words that go back (document 01, "SDCP and VMC").
 use numbers::Number;
 use numbers::number_of;
+use numbers::numeral_of;
 use octets::begins_with;
 use octets::byte_at;
+use octets::lay;
 use octets::same_bytes;
 use panels::WRecord;
 use words::Found;
@@ -10,12 +12,18 @@ use words::chosen;
 use words::lead_length;
 use words::led;
 use words::named;
+use words::put_lead;
+use words::put_word;
+use words::word_length;
 ghost use mathlib.Core.Path.{_≡_};
 ghost use Prim.Native.Nat.{_≤_};
-ghost use lib.ListN.{set};
-ghost use Rattle.words.specs.Names.{chosenBy};
+ghost use mathlib.Core.List.{_++_};
+ghost use lib.ListN.{length, set};
+ghost use Rattle.numbers.specs.Decimals.{numeral};
+ghost use Rattle.words.specs.Names.{leadOf, wordOf, chosenBy};
 ghost use Rattle.vmc.specs.Reading.{leadsZero, levelOf, signed, levelOrder, choiceOrder, shiftBy, shiftOrder, valueOrder, readSet, readGet, readData};
 ghost use Rattle.vmc.specs.Orders.{withSettings, withShifts, carried, toldOf};
+ghost use Rattle.vmc.specs.Texts.{sizeOf, signOf, shiftWords, setWords, textual, spelled};
 
 // What the words order or ask. The number is the name's place: 0 to 20 are the table's settings, 21 and 22 SHIFTH and SHIFTV.
 pub enum Order {
@@ -255,5 +263,99 @@ pub fn tell(w: WRecord, o: Order) -> Told
         Order::Shift(_, _) => Told::Bare,
         Order::Reset => Told::Bare,
         Order::Get(k) => present(w, k),
+    }
+}
+
+// A name with what parts it from its value, and the words of a value behind it.
+fn phrase(k: usize, value: &[u8]) -> Text
+    requires { ⌜ length (now value) ≤ 7 ⌝ }
+    ensures { λ r. ⌜ r ≡ textual (leadOf k ++ now (value .entry)) ⌝ }
+{
+    let mut bytes = [0u8; 20];
+    let n = lead_length(k);
+    put_lead(&mut bytes, 0, k);
+    lay(&mut bytes, n, value);
+    Text {
+        bytes,
+        len: n + value.len(),
+    }
+}
+
+// A level with its number.
+fn spell_level(k: usize, v: u8) -> Text
+    ensures { λ r. ⌜ r ≡ textual (leadOf k ++ numeral v) ⌝ }
+{
+    let number = numeral_of(v);
+    let digits = number.bytes;
+    let n = number.len;
+    phrase(k, &digits[..n])
+}
+
+// A choice with its word.
+fn spell_choice(k: usize, v: u8) -> Text
+    ensures { λ r. ⌜ r ≡ textual (leadOf k ++ wordOf k v) ⌝ }
+{
+    let mut word = [0u8; 7];
+    put_word(&mut word, 0, k, v as usize);
+    let n = word_length(k, v as usize);
+    phrase(k, &word[..n])
+}
+
+// A setting with its value.
+fn spell_value(k: usize, v: u8) -> Text
+    ensures { λ r. ⌜ r ≡ textual (setWords k v) ⌝ }
+{
+    if k < 3 {
+        return spell_level(k, v);
+    }
+    spell_choice(k, v)
+}
+
+// The size of a shift.
+fn size_of(z: i8) -> u8
+    ensures { λ r. ⌜ r ≡ sizeOf z ⌝ }
+{
+    if 0 <= z {
+        return z as u8;
+    }
+    let y = 0 - (z + 1);
+    y as u8 + 1
+}
+
+// The sign of a shift.
+fn sign_of(z: i8) -> u8
+    ensures { λ r. ⌜ r ≡ signOf z ⌝ }
+{
+    if 0 <= z {
+        return b'+';
+    }
+    b'-'
+}
+
+// A shift with its sign, save 0.
+fn spell_shift(k: usize, z: i8) -> Text
+    ensures { λ r. ⌜ r ≡ textual (leadOf k ++ shiftWords z) ⌝ }
+{
+    if z == 0 {
+        return phrase(k, b"0");
+    }
+    let number = numeral_of(size_of(z));
+    let digits = number.bytes;
+    let n = number.len;
+    let signed = [sign_of(z), digits[0], digits[1], digits[2]];
+    phrase(k, &signed[..n + 1])
+}
+
+// The words of what is told.
+pub fn spell(t: Told) -> Text
+    ensures { λ r. ⌜ r ≡ spelled t ⌝ }
+{
+    match t {
+        Told::Bare => Text {
+            bytes: [0; 20],
+            len: 0,
+        },
+        Told::Value(k, v) => spell_value(k, v),
+        Told::Offset(k, z) => spell_shift(k, z),
     }
 }

@@ -1,6 +1,6 @@
 -- What is found is a name or a word: of 23 names, and of at most three words.
 use Prim.Native.Nat.{ℕ, _<_, _≤_}
-use mathlib.Core.Path.{_≡_, refl, sym, ap}
+use mathlib.Core.Path.{_≡_, refl, ap}
 use mathlib.Core.Bool.{Bool, true, false}
 use mathlib.Core.List.{List, [], map}
 use native.Mathlib.Omega.{arith}
@@ -11,7 +11,7 @@ use Rattle.laws.specs.Bytes.{same, begins}
 use Rattle.laws.specs.Lists.{everyBelow}
 use Rattle.laws.proofs.Table.{below}
 use Rattle.settings.specs.Table.{Setting, table}
-use Rattle.words.specs.Names.{leads, leadOf, wordsOf, wordOf, firstOf, ledBy, chosenBy}
+use Rattle.words.specs.Names.{leads, leadOf, wordsOf, wordOf, ledBy, chosenBy}
 use Rattle.words.specs.declared.Found.{Found}
 use Rattle.words.specs.declared.Found.the-variants.{At, Nothing}
 use Rattle.words.proofs.Search.{Right, first-right}

@@ -1,20 +1,17 @@
 -- The rules of the rows of texts, each from one test computed over all rows.
-use Prim.Native.Nat.{ℕ, zero, suc, _+_, _-_, _*_, _<_, _≤_}
-use mathlib.Core.Path.{_≡_, refl, sym, ap, _∙_}
-use mathlib.Core.Bool.{Bool, true, false, cond, _&&_}
+use Prim.Native.Nat.{ℕ, _+_, _-_, _*_, _<_, _≤_}
+use mathlib.Core.Path.{_≡_, refl}
+use mathlib.Core.Bool.{Bool, true, false}
 use mathlib.Core.List.{List, [], _∷_, _++_, map}
 use native.Mathlib.Omega.{arith}
-use native.Mathlib.Nat.{add-zero, add-assoc}
 use lib.Dec.{T, eqb, leb, eqb→eq, leb→le}
 use lib.ListN.{length, getD, take, drop, replicate, List·getD-map, List·getD-eq-default}
 use Rattle.laws.specs.Bytes.{same}
 use Rattle.laws.specs.Lists.{everyBelow}
 use Rattle.laws.proofs.Lists.{same-is}
 use Rattle.laws.proofs.Table.{below}
-use Rattle.words.specs.Names.{names, leads, nameOf, leadOf, wordsOf, wordOf, firstOf}
+use Rattle.words.specs.Names.{names, leads, nameOf, leadOf, wordsOf, wordOf}
 use Rattle.words.specs.Rows.{values, textOf, bareOf}
-use Rattle.words.specs.declared.Found.{Found}
-use Rattle.words.specs.declared.Found.the-variants.{At, Nothing}
 
 -- the texts in rows of 13 places, as the code holds them
 abbrev pub laid : List (List ℕ) → List ℕ

@@ -1,5 +1,5 @@
 -- `level_of` turns down what is too long or leads with a zero, and asks the rest of the number reader.
-use mathlib.Core.Path.{_≡_, sym, ap, _∙_}
+use mathlib.Core.Path.{sym, ap, _∙_}
 use borrow.Author.Tests.{lt-leb, le-leb}
 use borrow.Author.Needs.{needs}
 use Rattle.vmc.proofs.Levels.{capped, zero-no-level, long-no-level, short-level}

@@ -1,9 +1,8 @@
 -- `level_order` goes by what was read; a level is at most 100, so it fits a byte.
-use mathlib.Core.Path.{_≡_, sym, ap, subst, _∙_}
+use mathlib.Core.Path.{sym, ap, subst, _∙_}
 use Prim.Native.Nat.{_≤_}
 use borrow.Author.Needs.{needs}
 use native.Mathlib.Omega.{arith}
-use Rattle.numbers.specs.declared.Number.{Number}
 use Rattle.vmc.specs.Reading.{levelOrder}
 use Rattle.vmc.proofs.Levels.{Most, level-most}
 use Rattle.vmc.proofs.level_order.Statement.{statement}

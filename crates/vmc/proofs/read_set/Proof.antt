@@ -9,7 +9,6 @@ use Rattle.laws.specs.Bytes.{begins}
 use Rattle.laws.proofs.Lists.{rest}
 use Rattle.laws.proofs.Texts.{begins-fits}
 use Rattle.words.specs.Names.{leadOf, ledBy}
-use Rattle.words.specs.declared.Found.{Found}
 use Rattle.words.specs.declared.Found.the-variants.{At}
 use Rattle.words.proofs.Search.{Right}
 use Rattle.words.proofs.Choices.{led-right}

@@ -1,7 +1,6 @@
 -- `signed_of`: 0 less a size is the number below 0 of that size.
-use mathlib.Core.Path.{sym, ap, _∙_}
+use mathlib.Core.Path.{sym, _∙_}
 use borrow.Author.Needs.{needs}
-use native.Mathlib.Omega.{arith}
 use mir.Facts.{toZ-ofZ}
 use Rattle.vmc.proofs.Signs.{small, minus, minus-fits}
 use Rattle.vmc.proofs.signed_of.Statement.{statement}

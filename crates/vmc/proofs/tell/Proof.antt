@@ -1,5 +1,4 @@
 -- `tell` goes by the order.
-use mathlib.Core.Path.{_∙_}
 use borrow.Author.Needs.{needs}
 use Rattle.vmc.specs.Orders.{toldOf}
 use Rattle.vmc.proofs.tell.Statement.{statement}

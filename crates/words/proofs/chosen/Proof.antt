@@ -1,6 +1,6 @@
 -- `chosen` searches the rows of the setting's own words.
 use Prim.Native.Nat.{ℕ, _+_, _<_}
-use mathlib.Core.Path.{_≡_, sym, ap, _∙_}
+use mathlib.Core.Path.{sym, ap, _∙_}
 use mathlib.Core.Bool.{true}
 use mathlib.Core.List.{List}
 use lib.ListN.{length, getD}
@@ -10,7 +10,7 @@ use Rattle.laws.specs.Bytes.{same}
 use Rattle.words.specs.Names.{wordsOf, wordOf, firstOf, chosenBy}
 use Rattle.words.specs.Rows.{meets}
 use Rattle.words.proofs.Choices.{no-words}
-use Rattle.words.proofs.Rules.{firsts, counts, count-is, words-fit, word-row}
+use Rattle.words.proofs.Rules.{firsts, count-is, words-fit, word-row}
 use Rattle.words.proofs.Search.{first-same}
 use Rattle.words.proofs.chosen.Statement.{statement}
 use Rattle.words.proofs.chosen.Tie as tie

@@ -1,7 +1,7 @@
 -- `lead_length` reads the lengths of the rows, of which the first are the names.
 use mathlib.Core.Path.{sym, ap}
 use mathlib.Core.List.{[]}
-use lib.ListN.{length, List·getD-map, List·getD-eq-default}
+use lib.ListN.{length, List·getD-eq-default}
 use borrow.Author.Needs.{needs}
 use Rattle.words.specs.Names.{leads}
 use Rattle.words.proofs.Rules.{lead-length-is}

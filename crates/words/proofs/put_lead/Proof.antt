@@ -1,5 +1,5 @@
 -- `put_lead` lays the row of the name; where there is no name, nothing.
-use mathlib.Core.Path.{_≡_, sym, ap, _∙_}
+use mathlib.Core.Path.{sym, ap, _∙_}
 use mathlib.Core.List.{[]}
 use lib.ListN.{List·getD-eq-default}
 use borrow.Author.Needs.{needs}

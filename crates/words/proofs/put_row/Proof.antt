@@ -1,7 +1,6 @@
 -- `put_row` lays the front of the row, which is its text.
 use Prim.Native.Nat.{ℕ, _+_, _-_, _*_, _<_, _≤_}
 use mathlib.Core.Path.{_≡_, ap, _∙_}
-use mathlib.Core.List.{List}
 use lib.ListN.{length, getD, take, drop}
 use borrow.Author.Needs.{needs}
 use native.Mathlib.Omega.{arith}

@@ -1,16 +1,15 @@
 -- `row_meets` compares the bare text with an s of its length, or looks whether the whole text begins s.
-use Prim.Native.Nat.{ℕ, _<_}
+use Prim.Native.Nat.{ℕ}
 use mathlib.Core.Path.{_≡_, sym, ap, _∙_}
-use mathlib.Core.List.{List, [], _++_}
-use lib.ListN.{length, take, List·getD-map}
+use mathlib.Core.List.{List}
+use lib.ListN.{length, take}
 use lib.Seq.{take-length}
 use borrow.Author.Needs.{needs}
 use native.Mathlib.Omega.{arith}
 use Rattle.laws.specs.Bytes.{begins, same}
 use Rattle.laws.proofs.Lists.{other-length}
 use Rattle.laws.proofs.Texts.{begins-same}
-use Rattle.words.specs.Names.{names, leads}
-use Rattle.words.specs.Rows.{values, textOf, bareOf, meets}
+use Rattle.words.specs.Rows.{textOf, bareOf, meets}
 use Rattle.words.proofs.Rules.{bare-front, bare-fits, bare-length, text-length}
 use Rattle.words.proofs.row_meets.Statement.{statement}
 use Rattle.words.proofs.row_meets.Tie as tie

@@ -1,5 +1,5 @@
 -- `word_length` reads the length of the row of the word.
-use mathlib.Core.Path.{_≡_, sym, ap, _∙_}
+use mathlib.Core.Path.{sym, ap, _∙_}
 use lib.ListN.{length, getD}
 use Prim.Native.Nat.{_+_}
 use borrow.Author.Needs.{needs}
