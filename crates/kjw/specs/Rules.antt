@@ -175,11 +175,6 @@ turned m k = spelled (lettersOf m) (turnOf k (heardOf m))
 unfoldable pub met : ℕ → List ℕ → KRecord → Outcome
 met room m k = cond (ltb room 512) (record { k = k; answer = AreaTooSmall; reply = [] }) (turned m k)
 
--- the area afterwards is the reply and what stood behind it, and n is the reply's length
-pub record Sent (reply : List ℕ) (n : ℕ) (area area′ : List ℕ) : Type 0 where
-  pub length-is : n ≡ length reply
-  pub area-is : area′ ≡ sent reply area
-
 -- the promise at the door: what is given back, and the whole area afterwards
 pub record Answered (k : KRecord) (m area : List ℕ) (r : Taken) (area′ : List ℕ) : Type 0 where
   pub given : r ≡ record { k = met (length area) m k .k; answer = met (length area) m k .answer; len = length (met (length area) m k .reply) }

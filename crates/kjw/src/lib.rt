@@ -12,10 +12,10 @@ ghost use mathlib.Core.Path.{_≡_};
 ghost use mathlib.Core.List.{_++_};
 ghost use Prim.Native.Nat.{_+_, _≤_};
 ghost use lib.ListN.{length, replicate};
-ghost use Rattle.laws.specs.Bytes.{over};
+ghost use Rattle.laws.specs.Bytes.{over, Sent};
 ghost use Rattle.numbers.specs.Decimals.{inDigits};
 ghost use Rattle.kjw.specs.Frames.{frameOf, typeAnswer, lettersOf, nameOf, switchWord, sceneWord, inputWord, valueOf};
-ghost use Rattle.kjw.specs.Rules.{switchOf, sceneOf, upTo, volumeOrder, inputOrder, toggleOf, controlOf, enquiryOf, isOurs, heardOf, flipped, carried, noticed, replyOf, turnOf, bytesOf, Sent, Answered};
+ghost use Rattle.kjw.specs.Rules.{switchOf, sceneOf, upTo, volumeOrder, inputOrder, toggleOf, controlOf, enquiryOf, isOurs, heardOf, flipped, carried, noticed, replyOf, turnOf, bytesOf, Answered};
 
 // What an enquiry asks for and a notice tells: POWR, AMUT, PMUT, VOLU, INPT, SCEN.
 pub enum State {

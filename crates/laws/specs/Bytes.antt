@@ -3,6 +3,7 @@ use Prim.Native.Nat.{ℕ, _+_, _<_}
 use Prim.Native.String.{String}
 use Prim.Native.String.{[] as end, _∷_ as then}
 use Prim.Native.Char.{code}
+use mathlib.Core.Path.{_≡_}
 use mathlib.Core.Bool.{Bool, true, false, cond, _&&_}
 use mathlib.Core.List.{List, [], _∷_, _++_}
 use lib.ListN.{length, getD, take, drop}
@@ -32,6 +33,11 @@ laid d n vs = cond (leb (n + length vs) (length d)) (over d n vs) d
 -- "A reply fills the front of the area; bytes after it keep what they held."
 abbrev pub sent : List ℕ → List ℕ → List ℕ
 sent reply area = reply ++ drop (length reply) area
+
+-- the same said of a call: n is the reply's length, and the area afterwards is the reply and what stood behind it
+pub record Sent (reply : List ℕ) (n : ℕ) (area area′ : List ℕ) : Type 0 where
+  pub length-is : n ≡ length reply
+  pub area-is : area′ ≡ sent reply area
 
 -- whether two lists are the same, byte for byte
 abbrev pub same : List ℕ → List ℕ → Bool

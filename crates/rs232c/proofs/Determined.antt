@@ -8,4 +8,4 @@ use Rattle.rs232c.specs.declared.Taken.{Taken}
 
 pub take-frame-one : (m : List ℕ) (w : WRecord) (area : List ℕ) (r r′ : Taken) (x x′ : List ℕ) → Takes m w area r x → Takes m w area r′ x′ → (r .w ≡ r′ .w) × (r .answer ≡ r′ .answer) × (r .len ≡ r′ .len) × (x ≡ x′)
 take-frame-one m w area r r′ x x′ p q =
-    (p .record-after ∙ sym (q .record-after), p .answer-given ∙ sym (q .answer-given), p .sends .len ∙ sym (q .sends .len), p .sends .area-after ∙ sym (q .sends .area-after))
+    (p .record-after ∙ sym (q .record-after), p .answer-given ∙ sym (q .answer-given), p .sends .length-is ∙ sym (q .sends .length-is), p .sends .area-is ∙ sym (q .sends .area-is))

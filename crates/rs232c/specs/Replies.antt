@@ -6,7 +6,7 @@ use mathlib.Core.List.{List, [], _∷_, _++_}
 use lib.Dec.{eqb, ltb}
 use lib.ListN.{length, getD}
 use lib.IntN.{ℤ, pos, negsuc}
-use Rattle.laws.specs.Bytes.{sent}
+use Rattle.laws.specs.Bytes.{Sent}
 use Rattle.sums.specs.Sums.{sumOf}
 use Rattle.terms.specs.declared.Answer.{Answer}
 use Rattle.terms.specs.declared.Answer.the-variants.{Done, AreaTooSmall, EnvelopeWrong, NotUnderstood}
@@ -93,13 +93,8 @@ turnOf m w = turned (heardOf m) (valuesOf m) w
 unfoldable pub told : ℕ → List ℕ → WRecord → Turn
 told room m w = cond (ltb room 512) (record { after = w; answer = AreaTooSmall; reply = Silent }) (turnOf m w)
 
--- the reply stands at the area's front, and its length is given
-pub record Sends (bytes : List ℕ) (n : ℕ) (area area′ : List ℕ) : Type 0 where
-  pub len : n ≡ length bytes
-  pub area-after : area′ ≡ sent bytes area
-
 -- the promise: the record after the message, the answer, the reply's length and the whole area
 pub record Takes (m : List ℕ) (w : WRecord) (area : List ℕ) (r : Taken) (area′ : List ℕ) : Type 0 where
   pub record-after : r .w ≡ told (length area) m w .after
   pub answer-given : r .answer ≡ told (length area) m w .answer
-  pub sends : Sends (bytesOf (told (length area) m w .reply)) (r .len) area area′
+  pub sends : Sent (bytesOf (told (length area) m w .reply)) (r .len) area area′

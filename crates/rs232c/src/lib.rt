@@ -12,11 +12,12 @@ ghost use Prim.Native.Nat.{_/_, _%_, _<_, _≤_};
 ghost use lib.Count.{ones};
 ghost use lib.Dec.{eqb};
 ghost use lib.ListN.{length, getD, take, drop};
+ghost use Rattle.laws.specs.Bytes.{Sent};
 ghost use Rattle.laws.specs.Lists.{every, listed};
 ghost use Rattle.panels.specs.Records.{connectors, presets};
 ghost use Rattle.rs232c.specs.Frames.{isForeign, isBroken, configCommand, selectCommand, levelsCommand, senseCommand, commandOf, heardOf, valuesOf};
 ghost use Rattle.rs232c.specs.Orders.{placeOf, connectorGood, presetGood, configGood, usedAfter, presetAfter, selectGood, turnedOff, onAfter, gainOf, biasOf, said, put, decode, puts, configuredBy, selectedBy, balancedBy, carried};
-ghost use Rattle.rs232c.specs.Replies.{frameOf, balancesBlock, bytesOf, biasBits, sensed, replyTo, Sends, Takes};
+ghost use Rattle.rs232c.specs.Replies.{frameOf, balancesBlock, bytesOf, biasBits, sensed, replyTo, Takes};
 
 // What a command block orders.
 pub enum Order {
@@ -529,7 +530,7 @@ fn hear(m: &[u8]) -> Heard
 // ACK and NAK.
 fn put_short(to: u8, code: u8, area: &mut [u8]) -> usize
     requires { ⌜ 512 ≤ length (now area) ⌝ }
-    ensures { λ r. ⌜ Sends (frameOf to (code ∷ [])) r (now (area .entry)) (now (area .exit)) ⌝ }
+    ensures { λ r. ⌜ Sent (frameOf to (code ∷ [])) r (now (area .entry)) (now (area .exit)) ⌝ }
 {
     let sum = 3 + to as u32 + 1 + code as u32;
     let closing = ((256 - sum % 256) % 256) as u8;
@@ -540,7 +541,7 @@ fn put_short(to: u8, code: u8, area: &mut [u8]) -> usize
 // 7Eh.
 fn put_state(to: u8, on: u8, area: &mut [u8]) -> usize
     requires { ⌜ 512 ≤ length (now area) ⌝ }
-    ensures { λ r. ⌜ Sends (frameOf to (0x7e ∷ on ∷ [])) r (now (area .entry)) (now (area .exit)) ⌝ }
+    ensures { λ r. ⌜ Sent (frameOf to (0x7e ∷ on ∷ [])) r (now (area .entry)) (now (area .exit)) ⌝ }
 {
     let sum = 4 + to as u32 + 1 + 0x7E + on as u32;
     let closing = ((256 - sum % 256) % 256) as u8;
@@ -551,7 +552,7 @@ fn put_state(to: u8, on: u8, area: &mut [u8]) -> usize
 // 71h.
 fn put_balances(to: u8, which: u8, v: Three, area: &mut [u8]) -> usize
     requires { ⌜ 512 ≤ length (now area) ⌝ }
-    ensures { λ r. ⌜ Sends (frameOf to (balancesBlock which v)) r (now (area .entry)) (now (area .exit)) ⌝ }
+    ensures { λ r. ⌜ Sent (frameOf to (balancesBlock which v)) r (now (area .entry)) (now (area .exit)) ⌝ }
 {
     let sum = low(v.r) + high(v.r) + low(v.g) + high(v.g) + low(v.b) + high(v.b);
     let all = 10 + to as u32 + 1 + 0x71 + which as u32 + sum;
@@ -589,7 +590,7 @@ fn high(v: u16) -> u32
 // The reply's bytes at the area's front, and their number.
 fn send(reply: Reply, area: &mut [u8]) -> usize
     requires { ⌜ 512 ≤ length (now area) ⌝ }
-    ensures { λ r. ⌜ Sends (bytesOf reply) r (now (area .entry)) (now (area .exit)) ⌝ }
+    ensures { λ r. ⌜ Sent (bytesOf reply) r (now (area .entry)) (now (area .exit)) ⌝ }
 {
     match reply {
         Reply::Silent => 0,

@@ -4,10 +4,9 @@ use mathlib.Core.Path.{_≡_, sym, _∙_}
 use mathlib.Core.List.{List}
 use lib.ListN.{length}
 use borrow.Author.Needs.{needs}
-use Rattle.laws.specs.Bytes.{over}
+use Rattle.laws.specs.Bytes.{over, Sent}
 use Rattle.laws.proofs.Areas.{over-front}
 use Rattle.kjw.specs.Frames.{frameOf, typeAnswer}
-use Rattle.kjw.specs.Rules.{Sent}
 use Rattle.kjw.proofs.Lengths.{frame-length}
 use Rattle.kjw.proofs.put_answer.Statement.{statement}
 use Rattle.kjw.proofs.put_answer.Tie as tie

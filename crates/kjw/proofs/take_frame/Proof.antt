@@ -5,8 +5,9 @@ use mathlib.Core.List.{List}
 use lib.ListN.{length}
 use borrow.Author.Tests.{lt-ltb, le-ltb}
 use borrow.Author.Needs.{needs}
+use Rattle.laws.specs.Bytes.{Sent}
 use Rattle.kjw.specs.Frames.{lettersOf}
-use Rattle.kjw.specs.Rules.{heardOf, turnOf, bytesOf, turned, met, Sent, Answered}
+use Rattle.kjw.specs.Rules.{heardOf, turnOf, bytesOf, turned, met, Answered}
 use Rattle.panels.specs.declared.KRecord.{KRecord}
 use Rattle.kjw.specs.declared.Heard.{Heard}
 use Rattle.kjw.specs.declared.Turn.{Turn}

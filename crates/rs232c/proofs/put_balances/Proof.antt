@@ -103,8 +103,8 @@ returns c =
     let e : (256 - (10 + to + 1 + 0x71 + which + sum) % 256) % 256 ≡ (256 - (10 + (to + (1 + (0x71 + (which + (v .r % 256 + (v .r / 256 + (v .g % 256 + (v .g / 256 + (v .b % 256 + (v .b / 256 + 0))))))))))) % 256) % 256 =
     omega (arith, c .before .before .before .before .before .before .before .before .before .before .before .before .before .before .before .before .low .ensures .0, c .before .before .before .before .before .before .before .before .before .before .before .before .before .before .before .high .ensures .0, c .before .before .before .before .before .before .before .before .before .before .before .before .before .before .low2 .ensures .0, c .before .before .before .before .before .before .before .before .before .before .before .before .before .high2 .ensures .0, c .before .before .before .before .before .before .before .before .before .before .before .before .low3 .ensures .0, c .before .before .before .before .before .before .before .before .before .before .before .high3 .ensures .0) in
     record {
-      len = c .before .before .copy .ensures .0;
-      area-after = c .before .before .copy .ensures .1 ∙ ap (λ (k : ℕ). 2 ∷ 10 ∷ to ∷ 1 ∷ 0x71 ∷ which ∷ (v .r % 256) ∷ (v .r / 256) ∷ (v .g % 256) ∷ (v .g / 256) ∷ (v .b % 256) ∷ (v .b / 256) ∷ k ∷ drop 13 a) e;
+      length-is = c .before .before .copy .ensures .0;
+      area-is = c .before .before .copy .ensures .1 ∙ ap (λ (k : ℕ). 2 ∷ 10 ∷ to ∷ 1 ∷ 0x71 ∷ which ∷ (v .r % 256) ∷ (v .r / 256) ∷ (v .g % 256) ∷ (v .g / 256) ∷ (v .b % 256) ∷ (v .b / 256) ∷ k ∷ drop 13 a) e;
     }
 
 pub put-balances-spec : {M : Type 1} → statement M

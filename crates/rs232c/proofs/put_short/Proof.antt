@@ -41,7 +41,7 @@ returns c =
     let code = c .before .before .before .before .before .before .args .code in
     let a = c .before .before .before .before .before .before .args .area .now in
     let e : (256 - (3 + to + 1 + code) % 256) % 256 ≡ (256 - (3 + (to + (1 + (code + 0)))) % 256) % 256 = omega arith in
-    record { len = c .before .before .copy .ensures .0; area-after = c .before .before .copy .ensures .1 ∙ ap (λ (k : ℕ). 2 ∷ 3 ∷ to ∷ 1 ∷ code ∷ k ∷ drop 6 a) e }
+    record { length-is = c .before .before .copy .ensures .0; area-is = c .before .before .copy .ensures .1 ∙ ap (λ (k : ℕ). 2 ∷ 3 ∷ to ∷ 1 ∷ code ∷ k ∷ drop 6 a) e }
 
 pub put-short-spec : {M : Type 1} → statement M
 put-short-spec =

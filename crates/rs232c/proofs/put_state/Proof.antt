@@ -44,7 +44,7 @@ returns c =
     let on = c .before .before .before .before .before .before .args .on in
     let a = c .before .before .before .before .before .before .args .area .now in
     let e : (256 - (4 + to + 1 + 0x7e + on) % 256) % 256 ≡ (256 - (4 + (to + (1 + (0x7e + (on + 0))))) % 256) % 256 = omega arith in
-    record { len = c .before .before .copy .ensures .0; area-after = c .before .before .copy .ensures .1 ∙ ap (λ (k : ℕ). 2 ∷ 4 ∷ to ∷ 1 ∷ 0x7e ∷ on ∷ k ∷ drop 7 a) e }
+    record { length-is = c .before .before .copy .ensures .0; area-is = c .before .before .copy .ensures .1 ∙ ap (λ (k : ℕ). 2 ∷ 4 ∷ to ∷ 1 ∷ 0x7e ∷ on ∷ k ∷ drop 7 a) e }
 
 pub put-state-spec : {M : Type 1} → statement M
 put-state-spec =

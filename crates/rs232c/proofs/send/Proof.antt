@@ -34,7 +34,7 @@ put-balances-requires c κs = search needs
 
 returns : tie.Need-returns
 unfolding bytesOf
-returns c = rw (c .enum-told .given .1) (record { len = refl; area-after = refl })
+returns c = rw (c .enum-told .given .1) (record { length-is = refl; area-is = refl })
 
 same-length : tie.Need-same-length
 same-length c = search needs

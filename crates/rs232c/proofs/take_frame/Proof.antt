@@ -6,7 +6,8 @@ use lib.ListN.{length}
 use borrow.Author.Tests.{lt-ltb, le-ltb}
 use borrow.Author.Needs.{needs}
 use Rattle.rs232c.specs.Frames.{heardOf, valuesOf}
-use Rattle.rs232c.specs.Replies.{Sends, bytesOf, Turn, turned, told, Takes}
+use Rattle.laws.specs.Bytes.{Sent}
+use Rattle.rs232c.specs.Replies.{bytesOf, Turn, turned, told, Takes}
 use Rattle.terms.specs.declared.Answer.the-variants.{AreaTooSmall}
 use Rattle.rs232c.specs.declared.Taken.{Taken}
 use Rattle.rs232c.specs.declared.Heard.{Heard}
@@ -16,16 +17,16 @@ use Rattle.panels.specs.declared.WRecord.{WRecord}
 use Rattle.rs232c.proofs.take_frame.Statement.{statement}
 use Rattle.rs232c.proofs.take_frame.Tie as tie
 
-takes : (m : List ℕ) (w : WRecord) (area area′ : List ℕ) (r : Taken) (t : Turn) → told (length area) m w ≡ t → r .w ≡ t .after → r .answer ≡ t .answer → Sends (bytesOf (t .reply)) (r .len) area area′ → Takes m w area r area′
+takes : (m : List ℕ) (w : WRecord) (area area′ : List ℕ) (r : Taken) (t : Turn) → told (length area) m w ≡ t → r .w ≡ t .after → r .answer ≡ t .answer → Sent (bytesOf (t .reply)) (r .len) area area′ → Takes m w area r area′
 takes m w area area′ r t e p q s = record {
   record-after = p ∙ ap (λ (x : Turn). x .after) (sym e);
   answer-given = q ∙ ap (λ (x : Turn). x .answer) (sym e);
-  sends = subst (λ (x : Turn). Sends (bytesOf (x .reply)) (r .len) area area′) (sym e) s;
+  sends = subst (λ (x : Turn). Sent (bytesOf (x .reply)) (r .len) area area′) (sym e) s;
 }
 
-silence : (area : List ℕ) → Sends (bytesOf Silent) 0 area area
+silence : (area : List ℕ) → Sent (bytesOf Silent) 0 area area
 unfolding bytesOf
-silence area = record { len = refl; area-after = refl }
+silence area = record { length-is = refl; area-is = refl }
 
 too-small : (room : ℕ) (m : List ℕ) (w : WRecord) → room < 512 → told room m w ≡ record { after = w; answer = AreaTooSmall; reply = Silent }
 unfolding told
@@ -101,7 +102,7 @@ returns-5 : tie.Need-returns-5
 unfolding turned
 returns-5 c =
     let a = c .before .before .before .before .before .before .before .before .before .before .before .before .before .args in
-    let s = subst (λ (y : Reply). Sends (bytesOf y) (c .before .before .send3 .result) (a .area .now) (c .before .before .send3 .last .1 .0)) (c .before .before .before .before .reply-to .ensures) (c .before .before .send3 .ensures) in
+    let s = subst (λ (y : Reply). Sent (bytesOf y) (c .before .before .send3 .result) (a .area .now) (c .before .before .send3 .last .1 .0)) (c .before .before .before .before .reply-to .ensures) (c .before .before .send3 .ensures) in
     takes (a .m .now) (a .w) (a .area .now) _ _ _ (asked (length (a .area .now)) (a .m .now) (a .w) (c .before .before .before .before .before .before .before .before .before .hear .result) _ (c .before .before .before .before .before .before .before .before .before .before .if1 .left) (c .before .before .before .before .before .before .before .before .before .hear .ensures) (c .before .before .before .before .before .before .before .ask4 .given .1)) (c .before .before .before .before .before .carry .ensures) refl s
 
 pub take-frame-spec : {M : Type 1} → statement M
