@@ -9,8 +9,8 @@ use lib.Dec.{eqb, leb, ltb}
 use borrow.Author.Tests.{eqb-true, le-leb, not-false}
 use Rattle.laws.specs.Bytes.{ascii, part, same}
 use Rattle.laws.specs.Lists.{listed}
-use Rattle.laws.proofs.Conditions.{and-first, and-second, and-both}
-use Rattle.laws.proofs.Lists.{part-length}
+use Rattle.laws.proofs.Conditions.{and-first, and-second, and-both, choose}
+use Rattle.laws.proofs.Lists.{part-length, listed-every}
 use Rattle.terms.specs.declared.Answer.the-variants.{Done, AreaTooSmall, WrongLength, NotForUs}
 use Rattle.panels.specs.Records.{kinds}
 use Rattle.panels.specs.Valid.{okInput, okK}
@@ -23,12 +23,7 @@ use Rattle.kjw.specs.declared.Order.{Order}
 use Rattle.kjw.specs.declared.Order.the-variants.{SetPower, TogglePower, SetAudioMute, SetPictureMute, TogglePictureMute, SetVolume, SetInput, SetScene, Ask}
 use Rattle.kjw.specs.declared.Heard.{Heard}
 use Rattle.kjw.specs.declared.Heard.the-variants.{Refused, Strange, Understood}
-use Rattle.kjw.proofs.Orders.{volume-most, Inputs, input-is, listed-every, port-most}
-
--- what holds of both sides of a choice holds of what is chosen
-either : {A : Type 0} (f : A → Bool) (b : Bool) (x y : A) → (b ≡ true → f x ≡ true) → (b ≡ false → f y ≡ true) → f (cond b x y) ≡ true
-either f true x y p q = p refl
-either f false x y p q = q refl
+use Rattle.kjw.proofs.Orders.{volume-most, Inputs, input-is, port-most}
 
 -- an order whose numbers are in their ranges
 abbrev inRange : Order → Bool
@@ -47,13 +42,16 @@ sound (Refused a) = true
 sound Strange = true
 sound (Understood o) = inRange o
 
-up-to-sound : (most v : ℕ) (o : Order) → (leb v most ≡ true → inRange o ≡ true) → sound (upTo most v o) ≡ true
-unfolding upTo
-up-to-sound most v o h = either sound (leb v most) (Understood o) Strange h (λ e. refl)
+abbrev Sound : Heard → Type 0
+Sound h = sound h ≡ true
 
-volume-sound : (p : List ℕ) → sound (volumeOrder p) ≡ true
+up-to-sound : (most v : ℕ) (o : Order) → (leb v most ≡ true → inRange o ≡ true) → Sound (upTo most v o)
+unfolding upTo
+up-to-sound most v o h = choose Sound (leb v most) (Understood o) Strange h (λ e. refl)
+
+volume-sound : (p : List ℕ) → Sound (volumeOrder p)
 unfolding volumeOrder
-volume-sound p = either sound (isVolume p) (Understood (SetVolume (decimal p))) Strange (λ e. le-leb (decimal p) 100 (volume-most p e)) (λ e. refl)
+volume-sound p = choose Sound (isVolume p) (Understood (SetVolume (decimal p))) Strange (λ e. le-leb (decimal p) 100 (volume-most p e)) (λ e. refl)
 
 input-ok : (p : List ℕ) → length p ≡ 16 → Inputs p → okInput (getD p 7 0 - 0x30) (decimal (part 12 4 p)) ≡ true
 unfolding okInput
@@ -62,46 +60,46 @@ input-ok p h i =
     let kind : listed kinds (getD p 7 0 - 0x30) ≡ true = listed-every (λ (x : ℕ). listed kinds (x - 0x30)) (ascii "1345") (getD p 7 0) refl (i .kind) in
     and-both (listed kinds (getD p 7 0 - 0x30) && leb 1 port) (leb port 9999) (and-both (listed kinds (getD p 7 0 - 0x30)) (leb 1 port) kind (le-leb 1 port (i .port))) (le-leb port 9999 (port-most p h (i .digits)))
 
-input-sound : (p : List ℕ) → length p ≡ 16 → sound (inputOrder p) ≡ true
+input-sound : (p : List ℕ) → length p ≡ 16 → Sound (inputOrder p)
 unfolding inputOrder
-input-sound p h = either sound (isInput p) (Understood (SetInput (getD p 7 0 - 0x30) (decimal (part 12 4 p)))) Strange (λ e. input-ok p h (input-is p e)) (λ e. refl)
+input-sound p h = choose Sound (isInput p) (Understood (SetInput (getD p 7 0 - 0x30) (decimal (part 12 4 p)))) Strange (λ e. input-ok p h (input-is p e)) (λ e. refl)
 
-toggle-sound : (l p : List ℕ) → sound (toggleOf l p) ≡ true
+toggle-sound : (l p : List ℕ) → Sound (toggleOf l p)
 unfolding toggleOf
 toggle-sound l p =
-    either sound (not (same p blank)) Strange _ (λ e. refl)
-    (λ e. either sound (same l (ascii "TPOW")) (Understood TogglePower) _ (λ f. refl)
-    (λ f. either sound (same l (ascii "TPMU")) (Understood TogglePictureMute) Strange (λ g. refl) (λ g. refl)))
+    choose Sound (not (same p blank)) Strange _ (λ e. refl)
+    (λ e. choose Sound (same l (ascii "TPOW")) (Understood TogglePower) _ (λ f. refl)
+    (λ f. choose Sound (same l (ascii "TPMU")) (Understood TogglePictureMute) Strange (λ g. refl) (λ g. refl)))
 
-control-sound : (l p : List ℕ) → length p ≡ 16 → sound (controlOf l p) ≡ true
+control-sound : (l p : List ℕ) → length p ≡ 16 → Sound (controlOf l p)
 unfolding controlOf
 control-sound l p h =
-    either sound (same l (nameOf Power)) (upTo 1 (switchOf p) (SetPower (switchOf p))) _ (λ e. up-to-sound 1 (switchOf p) (SetPower (switchOf p)) (λ f. f))
-    (λ e. either sound (same l (nameOf AudioMute)) (upTo 1 (switchOf p) (SetAudioMute (switchOf p))) _ (λ e. up-to-sound 1 (switchOf p) (SetAudioMute (switchOf p)) (λ f. f))
-    (λ e. either sound (same l (nameOf PictureMute)) (upTo 1 (switchOf p) (SetPictureMute (switchOf p))) _ (λ e. up-to-sound 1 (switchOf p) (SetPictureMute (switchOf p)) (λ f. f))
-    (λ e. either sound (same l (nameOf Volume)) (volumeOrder p) _ (λ e. volume-sound p)
-    (λ e. either sound (same l (nameOf Input)) (inputOrder p) _ (λ e. input-sound p h)
-    (λ e. either sound (same l (nameOf Scene)) (upTo 2 (sceneOf p) (SetScene (sceneOf p))) _ (λ e. up-to-sound 2 (sceneOf p) (SetScene (sceneOf p)) (λ f. f))
+    choose Sound (same l (nameOf Power)) (upTo 1 (switchOf p) (SetPower (switchOf p))) _ (λ e. up-to-sound 1 (switchOf p) (SetPower (switchOf p)) (λ f. f))
+    (λ e. choose Sound (same l (nameOf AudioMute)) (upTo 1 (switchOf p) (SetAudioMute (switchOf p))) _ (λ e. up-to-sound 1 (switchOf p) (SetAudioMute (switchOf p)) (λ f. f))
+    (λ e. choose Sound (same l (nameOf PictureMute)) (upTo 1 (switchOf p) (SetPictureMute (switchOf p))) _ (λ e. up-to-sound 1 (switchOf p) (SetPictureMute (switchOf p)) (λ f. f))
+    (λ e. choose Sound (same l (nameOf Volume)) (volumeOrder p) _ (λ e. volume-sound p)
+    (λ e. choose Sound (same l (nameOf Input)) (inputOrder p) _ (λ e. input-sound p h)
+    (λ e. choose Sound (same l (nameOf Scene)) (upTo 2 (sceneOf p) (SetScene (sceneOf p))) _ (λ e. up-to-sound 2 (sceneOf p) (SetScene (sceneOf p)) (λ f. f))
     (λ e. toggle-sound l p))))))
 
-enquiry-sound : (l p : List ℕ) → sound (enquiryOf l p) ≡ true
+enquiry-sound : (l p : List ℕ) → Sound (enquiryOf l p)
 unfolding enquiryOf
 enquiry-sound l p =
-    either sound (not (same p blank)) Strange _ (λ e. refl)
-    (λ e. either sound (same l (nameOf Power)) (Understood (Ask Power)) _ (λ e. refl)
-    (λ e. either sound (same l (nameOf AudioMute)) (Understood (Ask AudioMute)) _ (λ e. refl)
-    (λ e. either sound (same l (nameOf PictureMute)) (Understood (Ask PictureMute)) _ (λ e. refl)
-    (λ e. either sound (same l (nameOf Volume)) (Understood (Ask Volume)) _ (λ e. refl)
-    (λ e. either sound (same l (nameOf Input)) (Understood (Ask Input)) _ (λ e. refl)
-    (λ e. either sound (same l (nameOf Scene)) (Understood (Ask Scene)) Strange (λ e. refl) (λ e. refl)))))))
+    choose Sound (not (same p blank)) Strange _ (λ e. refl)
+    (λ e. choose Sound (same l (nameOf Power)) (Understood (Ask Power)) _ (λ e. refl)
+    (λ e. choose Sound (same l (nameOf AudioMute)) (Understood (Ask AudioMute)) _ (λ e. refl)
+    (λ e. choose Sound (same l (nameOf PictureMute)) (Understood (Ask PictureMute)) _ (λ e. refl)
+    (λ e. choose Sound (same l (nameOf Volume)) (Understood (Ask Volume)) _ (λ e. refl)
+    (λ e. choose Sound (same l (nameOf Input)) (Understood (Ask Input)) _ (λ e. refl)
+    (λ e. choose Sound (same l (nameOf Scene)) (Understood (Ask Scene)) Strange (λ e. refl) (λ e. refl)))))))
 
-heard-sound : (m : List ℕ) → sound (heardOf m) ≡ true
+heard-sound : (m : List ℕ) → Sound (heardOf m)
 unfolding heardOf
 heard-sound m =
-    either sound (not (eqb (length m) 24)) (Refused WrongLength) _ (λ e. refl)
+    choose Sound (not (eqb (length m) 24)) (Refused WrongLength) _ (λ e. refl)
     (λ e. let n : length m ≡ 24 = eqb-true (length m) 24 (not-false (eqb (length m) 24) e) in
-    either sound (not (isOurs m)) (Refused NotForUs) _ (λ f. refl)
-    (λ f. either sound (eqb (getD m 2 0) typeControl) (controlOf (lettersOf m) (part 7 16 m)) (enquiryOf (lettersOf m) (part 7 16 m)) (λ g. control-sound (lettersOf m) (part 7 16 m) (part-length 7 16 m (omega arith))) (λ g. enquiry-sound (lettersOf m) (part 7 16 m))))
+    choose Sound (not (isOurs m)) (Refused NotForUs) _ (λ f. refl)
+    (λ f. choose Sound (eqb (getD m 2 0) typeControl) (controlOf (lettersOf m) (part 7 16 m)) (enquiryOf (lettersOf m) (part 7 16 m)) (λ g. control-sound (lettersOf m) (part 7 16 m) (part-length 7 16 m (omega arith))) (λ g. enquiry-sound (lettersOf m) (part 7 16 m))))
 
 -- a valid panel, setting by setting
 record Settings (k : KRecord) : Type 0 where
@@ -139,7 +137,7 @@ together k w = rw (w .powered, w .sound-muted, w .picture-muted, w .loud, w .sta
 
 flipped-ok : (v : ℕ) → leb (flipped v) 1 ≡ true
 unfolding flipped
-flipped-ok v = either (λ (x : ℕ). leb x 1) (eqb v 0) 1 0 (λ e. refl) (λ e. refl)
+flipped-ok v = choose (λ (x : ℕ). leb x 1 ≡ true) (eqb v 0) 1 0 (λ e. refl) (λ e. refl)
 
 carried-keeps : (o : Order) (k : KRecord) → inRange o ≡ true → Settings k → Settings (carried o k)
 unfolding carried

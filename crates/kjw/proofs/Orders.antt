@@ -1,19 +1,19 @@
 -- What the tests of VOLU and INPT say of the parameters that pass them.
-use mathlib.Core.Path.{_≡_, refl, ap, _∙_}
-use mathlib.Core.Bool.{Bool, true, false, _&&_, _||_}
-use mathlib.Core.List.{List, [], _∷_}
+use mathlib.Core.Path.{_≡_, refl}
+use mathlib.Core.Bool.{true, _&&_}
+use mathlib.Core.List.{List}
 use Prim.Native.Nat.{ℕ, _≤_, _<_}
 use native.Mathlib.Omega.{arith}
 use lib.ListN.{length, getD}
-use lib.Dec.{eqb, leb}
-use borrow.Author.Tests.{leb-true, eqb-true}
+use lib.Dec.{leb}
+use borrow.Author.Tests.{leb-true}
 use Rattle.laws.specs.Bytes.{ascii, part, same}
 use Rattle.laws.specs.Lists.{every, listed}
-use Rattle.laws.proofs.Conditions.{and-first, and-second, false-true}
-use Rattle.laws.proofs.Lists.{same-is, part-length}
+use Rattle.laws.proofs.Conditions.{and-first, and-second}
+use Rattle.laws.proofs.Lists.{same-is, part-length, listed-every}
 use Rattle.numbers.specs.Decimals.{isDigit, decimal}
-use Rattle.kjw.specs.Rules.{isVolume, isInput}
 use Rattle.numbers.proofs.Decimals.{decimal-fits}
+use Rattle.kjw.specs.Rules.{isVolume, isInput}
 
 pub volume-digits : (p : List ℕ) → isVolume p ≡ true → every isDigit p ≡ true
 unfolding isVolume
@@ -48,15 +48,6 @@ input-is p e =
       digits = and-second (f && k && m) d e₁;
       port = leb-true 1 (decimal (part 12 4 p)) (and-second (f && k && m && d) n e);
     }
-
--- what holds of each listed number holds of a number that is listed
-pub listed-every : (f : ℕ → Bool) (l : List ℕ) (x : ℕ) → every f l ≡ true → listed l x ≡ true → f x ≡ true
-listed-every f [] x a e = absurd (false-true e)
-listed-every f (y ∷ l) x a e = pick (eqb x y) refl e (listed-every f l x (and-second (f y) (every f l) a))
-  where
-    pick : (q : Bool) → eqb x y ≡ q → (q || listed l x) ≡ true → (listed l x ≡ true → f x ≡ true) → f x ≡ true
-    pick true t e r = ap f (eqb-true x y t) ∙ and-first (f y) (every f l) a
-    pick false t e r = r e
 
 -- the type's digit is a digit
 pub kind-digit : (p : List ℕ) → listed (ascii "1345") (getD p 7 0) ≡ true → isDigit (getD p 7 0) ≡ true

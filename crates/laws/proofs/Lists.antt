@@ -7,12 +7,12 @@ use native.Mathlib.Omega.{arith}
 use native.Mathlib.Nat.{add-zero}
 use native.Mathlib.Numerals.{add-one}
 use lib.Dec.{eqb, leb, lit<}
-use lib.ListN.{length, getD, take, drop, drop-of-length-le, length-drop}
+use lib.ListN.{length, getD, set, take, drop, drop-of-length-le, length-drop}
 use lib.Seq.{drop-cons, drop-drop, take-add, take-all, getD-drop, getD-take, length-take-le}
-use borrow.Author.Tests.{eqb-true, eq-eqb}
+use borrow.Author.Tests.{eqb-true, eq-eqb, le-leb}
 use Rattle.laws.specs.Bytes.{Bytes, part, same}
 use Rattle.laws.specs.Lists.{every, listed, within, places}
-use Rattle.laws.proofs.Conditions.{and-first, and-second, false-true}
+use Rattle.laws.proofs.Conditions.{and-first, and-second, and-both, false-true}
 
 -- the list from i on is the element at i and the list from i + 1 on
 pub from : {A : Type 0} (l : List A) (i : ℕ) (d : A) → i < length l → drop i l ≡ getD l i d ∷ drop (i + 1) l
@@ -56,6 +56,23 @@ listed-from l x i h = ap (λ (m : List ℕ). listed m x) (from l i 0 h)
 
 pub within-from : (l bs : List ℕ) (i : ℕ) → i < length l → i < length bs → within (drop i l) (drop i bs) ≡ (leb (getD l i 0) (getD bs i 0) && within (drop (i + 1) l) (drop (i + 1) bs))
 within-from l bs i h k = rw (from l i 0 h, from bs i 0 k)
+
+-- what holds of each listed number holds of a number that is listed
+pub listed-every : (f : ℕ → Bool) (l : List ℕ) (x : ℕ) → every f l ≡ true → listed l x ≡ true → f x ≡ true
+listed-every f [] x a e = absurd (false-true e)
+listed-every f (y ∷ l) x a e = pick (eqb x y) refl e (listed-every f l x (and-second (f y) (every f l) a))
+  where
+    pick : (q : Bool) → eqb x y ≡ q → (q || listed l x) ≡ true → (listed l x ≡ true → f x ≡ true) → f x ≡ true
+    pick true t e r = ap f (eqb-true x y t) ∙ and-first (f y) (every f l) a
+    pick false t e r = r e
+
+-- numbers within their bounds stay so where one is set to a number within
+pub within-set : (l bs : List ℕ) (k v : ℕ) → within l bs ≡ true → v ≤ getD bs k v → within (set l k v) bs ≡ true
+within-set [] bs k v e h = e
+within-set (x ∷ l) [] zero v e h = refl
+within-set (x ∷ l) [] (suc k) v e h = refl
+within-set (x ∷ l) (b ∷ bs) zero v e h = and-both (leb v b) (within l bs) (le-leb v b h) (and-second (leb x b) (within l bs) e)
+within-set (x ∷ l) (b ∷ bs) (suc k) v e h = and-both (leb x b) (within (set l k v) bs) (and-first (leb x b) (within l bs) e) (within-set l bs k v (and-second (leb x b) (within l bs) e) h)
 
 pub same-from : (l m : List ℕ) (i : ℕ) → i < length l → i < length m → same (drop i l) (drop i m) ≡ (eqb (getD l i 0) (getD m i 0) && same (drop (i + 1) l) (drop (i + 1) m))
 same-from l m i h k = rw (from l i 0 h, from m i 0 k)

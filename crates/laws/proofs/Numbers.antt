@@ -3,15 +3,24 @@ use mathlib.Core.Path.{_≡_, refl, sym, ap, _∙_}
 use mathlib.Core.List.{List, [], _∷_}
 use Prim.Native.Nat.{ℕ, zero, suc, _+_, _*_, _/_, _%_, _^_, _<_}
 use native.Mathlib.Omega.{arith}
-use native.Mathlib.Nat.{pow-succ', pow-zero, mul-assoc, add-mul-div-right, add-comm, mul-add-mod-self-right, mod-eq-of-lt, mod-one}
+use native.Mathlib.Nat.{pow-succ', pow-zero, one-le-pow, mul-assoc, add-mul-div-right, add-comm, mul-add-mod-self-right, mod-eq-of-lt, mod-one}
 use lib.Arith.{digits-lt, digits-div, mod-mul}
 use lib.ListN.{length}
 use Rattle.laws.specs.Bytes.{Bytes}
 use Rattle.laws.specs.Numbers.{number, inBytes}
 
-positive : (n : ℕ) → 0 < 256 ^ n
-positive zero = rw pow-zero (omega arith)
-positive (suc n) = rw pow-succ' (let h = positive n in omega (arith, h))
+pub positive : (b n : ℕ) → 0 < b → 0 < b ^ n
+positive b n h = let p = one-le-pow n b h in omega arith
+
+-- in any base b: a number above n + 1 digits is one above n digits, and does not show in the first of them
+pub above : (b n a : ℕ) → a * b ^ suc n ≡ a * b * b ^ n
+above b n a = rw pow-succ' (sym (mul-assoc a b (b ^ n)))
+
+pub first-under : (b n a v : ℕ) → 0 < b → (a * b ^ suc n + v) / b ^ n % b ≡ v / b ^ n % b
+first-under b n a v h =
+    ap (λ (x : ℕ). x / b ^ n % b) (ap (λ (x : ℕ). x + v) (above b n a) ∙ add-comm (a * b * b ^ n) v)
+    ∙ ap (λ (x : ℕ). x % b) (add-mul-div-right v (a * b) (positive b n h) ∙ add-comm (v / b ^ n) (a * b))
+    ∙ mul-add-mod-self-right a b (v / b ^ n)
 
 pub length-in-bytes : (n v : ℕ) → length (inBytes n v) ≡ n
 unfolding inBytes
@@ -25,7 +34,7 @@ read-written zero v = sym (rw pow-zero (mod-one v))
 read-written (suc n) v =
     ap (λ (k : ℕ). v / 256 ^ n % 256 * 256 ^ k + number (inBytes n v)) (length-in-bytes n v)
     ∙ ap (λ (x : ℕ). v / 256 ^ n % 256 * 256 ^ n + x) (read-written n v)
-    ∙ sym (rw pow-succ' (mod-mul v {m = 256} {c = 256 ^ n} (omega arith) (positive n)))
+    ∙ sym (rw pow-succ' (mod-mul v {m = 256} {c = 256 ^ n} (omega arith) (positive 256 n (omega arith))))
 
 pub number-in-bytes : (n v : ℕ) → v < 256 ^ n → number (inBytes n v) ≡ v
 number-in-bytes n v h = read-written n v ∙ mod-eq-of-lt h
@@ -35,13 +44,8 @@ low-bytes : (n a v : ℕ) → inBytes n (a * 256 ^ n + v) ≡ inBytes n v
 unfolding inBytes
 low-bytes zero a v = refl
 low-bytes (suc n) a v =
-    let up : a * 256 ^ suc n ≡ a * 256 * 256 ^ n = rw pow-succ' (sym (mul-assoc a 256 (256 ^ n))) in
-    let first : (a * 256 * 256 ^ n + v) / 256 ^ n % 256 ≡ v / 256 ^ n % 256 =
-    ap (λ (x : ℕ). x / 256 ^ n % 256) (add-comm (a * 256 * 256 ^ n) v)
-    ∙ ap (λ (x : ℕ). x % 256) (add-mul-div-right v (a * 256) (positive n) ∙ add-comm (v / 256 ^ n) (a * 256))
-    ∙ mul-add-mod-self-right a 256 (v / 256 ^ n) in
-    ap (λ (x : ℕ). ((x + v) / 256 ^ n % 256) ∷ inBytes n (x + v)) up
-    ∙ ap (λ (x : ℕ). x ∷ inBytes n (a * 256 * 256 ^ n + v)) first
+    ap (λ (x : ℕ). x ∷ inBytes n (a * 256 ^ suc n + v)) (first-under 256 n a v (omega arith))
+    ∙ ap (λ (x : ℕ). (v / 256 ^ n % 256) ∷ inBytes n (x + v)) (above 256 n a)
     ∙ ap (λ (l : List ℕ). (v / 256 ^ n % 256) ∷ l) (low-bytes n (a * 256) v)
 
 -- bytes write a number that they can hold

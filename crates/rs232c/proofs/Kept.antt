@@ -10,7 +10,8 @@ use lib.IntN.{pos, negsuc}
 use lib.ListN.{length, getD, set, replicate, take, drop}
 use borrow.Author.Tests.{le-leb, ltb-true, ltb-false, not-false}
 use Rattle.laws.specs.Lists.{every, listed, within}
-use Rattle.laws.proofs.Conditions.{and-first, and-second, and-both}
+use Rattle.laws.proofs.Conditions.{and-first, and-second, and-both, choose}
+use Rattle.laws.proofs.Lists.{within-set}
 use Rattle.settings.specs.Table.{mosts}
 use Rattle.panels.specs.Records.{connectors, presets}
 use Rattle.panels.specs.Valid.{okShift, okGain, okBias, okInputs, okBalance, okW}
@@ -45,14 +46,6 @@ preset-listed marks byte i g h = go (presetMarked marks) g
     go : (a : Bool) → cond a (listed presets (presetOf byte)) true ≡ true → listed presets (cond a (presetOf byte) (i .preset)) ≡ true
     go true e = e
     go false e = h
-
--- numbers within their bounds stay so where one is set to a number within
-within-set : (l bs : List ℕ) (k v : ℕ) → within l bs ≡ true → v ≤ getD bs k v → within (set l k v) bs ≡ true
-within-set [] bs k v e h = e
-within-set (x ∷ l) [] zero v e h = refl
-within-set (x ∷ l) [] (suc k) v e h = refl
-within-set (x ∷ l) (b ∷ bs) zero v e h = and-both (leb v b) (within l bs) (le-leb v b h) (and-second (leb x b) (within l bs) e)
-within-set (x ∷ l) (b ∷ bs) (suc k) v e h = and-both (leb x b) (within (set l k v) bs) (and-first (leb x b) (within l bs) e) (within-set l bs k v (and-second (leb x b) (within l bs) e) h)
 
 one-at : (n k : ℕ) → 1 ≤ getD (replicate n 1) k 1
 one-at zero k = lit≤ tt
@@ -164,47 +157,43 @@ GoodHeard (Broken s) = Unit {0}
 GoodHeard (Strange s) = Unit {0}
 GoodHeard (Understood s o) = Good o
 
-choose : (b : Bool) (x y : Heard) → (b ≡ true → GoodHeard x) → (b ≡ false → GoodHeard y) → GoodHeard (cond b x y)
-choose true x y f g = f refl
-choose false x y f g = g refl
-
 config-heard : (s n a b : ℕ) → GoodHeard (configCommand s n a b)
 unfolding configCommand
 config-heard s n a b =
-    choose (not (eqb n 2)) (Strange s) _ (λ e. tt) (λ e.
-    choose (not (configGood a b)) (Strange s) (Understood s (Config a b)) (λ f. tt) (λ f. not-false (configGood a b) f))
+    choose GoodHeard (not (eqb n 2)) (Strange s) _ (λ e. tt) (λ e.
+    choose GoodHeard (not (configGood a b)) (Strange s) (Understood s (Config a b)) (λ f. tt) (λ f. not-false (configGood a b) f))
 
 select-heard : (s n a : ℕ) → GoodHeard (selectCommand s n a)
 unfolding selectCommand
 select-heard s n a =
-    choose (not (eqb n 1)) (Strange s) _ (λ e. tt) (λ e. choose (not (selectGood a)) (Strange s) (Understood s (Select a)) (λ f. tt) (λ f. tt))
+    choose GoodHeard (not (eqb n 1)) (Strange s) _ (λ e. tt) (λ e. choose GoodHeard (not (selectGood a)) (Strange s) (Understood s (Select a)) (λ f. tt) (λ f. tt))
 
 levels-heard : (s n a : ℕ) → GoodHeard (levelsCommand s n a)
 unfolding levelsCommand
-levels-heard s n a = choose (not (eqb n (1 + 2 * ones (a % 64)))) (Strange s) (Understood s (Levels a)) (λ e. tt) (λ e. tt)
+levels-heard s n a = choose GoodHeard (not (eqb n (1 + 2 * ones (a % 64)))) (Strange s) (Understood s (Levels a)) (λ e. tt) (λ e. tt)
 
 sense-heard : (s n a : ℕ) → GoodHeard (senseCommand s n a)
 unfolding senseCommand
 sense-heard s n a =
-    choose (not (eqb n 1)) (Strange s) _ (λ e. tt) (λ e.
-    choose (eqb a 1) (Understood s (Sense a)) _ (λ f. tt) (λ f. choose (eqb a 2) (Understood s (Sense a)) (Strange s) (λ g. tt) (λ g. tt)))
+    choose GoodHeard (not (eqb n 1)) (Strange s) _ (λ e. tt) (λ e.
+    choose GoodHeard (eqb a 1) (Understood s (Sense a)) _ (λ f. tt) (λ f. choose GoodHeard (eqb a 2) (Understood s (Sense a)) (Strange s) (λ g. tt) (λ g. tt)))
 
 command-heard : (s code n a b : ℕ) → GoodHeard (commandOf s code n a b)
 unfolding commandOf
 command-heard s code n a b =
-    choose (eqb code 0x21) (configCommand s n a b) _ (λ e. config-heard s n a b) (λ e.
-    choose (eqb code 0x22) (selectCommand s n a) _ (λ f. select-heard s n a) (λ f.
-    choose (eqb code 0x40) (levelsCommand s n a) _ (λ g. levels-heard s n a) (λ g.
-    choose (eqb code 0x61) (senseCommand s n a) _ (λ h. sense-heard s n a) (λ h.
-    choose (not (eqb code 0x6e)) (Strange s) _ (λ i. tt) (λ i.
-    choose (not (eqb n 0)) (Strange s) (Understood s Remote) (λ j. tt) (λ j. tt))))))
+    choose GoodHeard (eqb code 0x21) (configCommand s n a b) _ (λ e. config-heard s n a b) (λ e.
+    choose GoodHeard (eqb code 0x22) (selectCommand s n a) _ (λ f. select-heard s n a) (λ f.
+    choose GoodHeard (eqb code 0x40) (levelsCommand s n a) _ (λ g. levels-heard s n a) (λ g.
+    choose GoodHeard (eqb code 0x61) (senseCommand s n a) _ (λ h. sense-heard s n a) (λ h.
+    choose GoodHeard (not (eqb code 0x6e)) (Strange s) _ (λ i. tt) (λ i.
+    choose GoodHeard (not (eqb n 0)) (Strange s) (Understood s Remote) (λ j. tt) (λ j. tt))))))
 
 heard-good : (m : List ℕ) → GoodHeard (heardOf m)
 unfolding heardOf
 heard-good m =
-    choose (ltb (length m) 6) (Refused WrongLength) _ (λ e. tt) (λ e.
-    choose (isForeign m) (Refused NotForUs) _ (λ f. tt) (λ f.
-    choose (isBroken m) (Broken (getD m 3 0)) _ (λ g. tt) (λ g.
+    choose GoodHeard (ltb (length m) 6) (Refused WrongLength) _ (λ e. tt) (λ e.
+    choose GoodHeard (isForeign m) (Refused NotForUs) _ (λ f. tt) (λ f.
+    choose GoodHeard (isBroken m) (Broken (getD m 3 0)) _ (λ g. tt) (λ g.
     command-heard (getD m 3 0) (getD m 4 0) (length m - 6) (getD m 5 0) (getD m 6 0))))
 
 turned-ok : (h : Heard) (vs : List ℕ) (w : WRecord) → GoodHeard h → InRange w → InRange (turned h vs w .after)

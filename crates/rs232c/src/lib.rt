@@ -1,14 +1,15 @@
 // RS-232C: one frame to one W panel (document 01, "RS-232C (002, 004)").
 use octets::byte_at;
 use octets::is_listed;
+use octets::lay;
 use panels::Balance;
 use panels::Inputs;
 use panels::WRecord;
+use sums::sum_of;
 use sums::sums_to_zero;
 use terms::Answer;
 ghost use mathlib.Core.Path.{_≡_};
-ghost use mathlib.Core.List.{[], _∷_};
-ghost use Prim.Native.Nat.{_/_, _%_, _<_, _≤_};
+ghost use Prim.Native.Nat.{_≤_};
 ghost use lib.Count.{ones};
 ghost use lib.Dec.{eqb};
 ghost use lib.ListN.{length, getD, take, drop};
@@ -527,26 +528,22 @@ fn hear(m: &[u8]) -> Heard
     )
 }
 
-// ACK and NAK.
-fn put_short(to: u8, code: u8, area: &mut [u8]) -> usize
+// A frame around a block: the byte count, both addresses and the checksum.
+fn put_frame(to: u8, block: &[u8], area: &mut [u8]) -> usize
+    requires { ⌜ length (now block) ≤ 8 ⌝ }
     requires { ⌜ 512 ≤ length (now area) ⌝ }
-    ensures { λ r. ⌜ Sent (frameOf to (code ∷ [])) r (now (area .entry)) (now (area .exit)) ⌝ }
+    ensures { λ r. ⌜ Sent (frameOf to (now (block .entry))) r (now (area .entry)) (now (area .exit)) ⌝ }
 {
-    let sum = 3 + to as u32 + 1 + code as u32;
+    let n = block.len();
+    let count = 2 + n as u8;
+    let sum = count as u32 + to as u32 + 1 + sum_of(block) as u32;
     let closing = ((256 - sum % 256) % 256) as u8;
-    let frame = [2, 3, to, 1, code, closing];
-    bytes::copy(&frame, area)
-}
-
-// 7Eh.
-fn put_state(to: u8, on: u8, area: &mut [u8]) -> usize
-    requires { ⌜ 512 ≤ length (now area) ⌝ }
-    ensures { λ r. ⌜ Sent (frameOf to (0x7e ∷ on ∷ [])) r (now (area .entry)) (now (area .exit)) ⌝ }
-{
-    let sum = 4 + to as u32 + 1 + 0x7E + on as u32;
-    let closing = ((256 - sum % 256) % 256) as u8;
-    let frame = [2, 4, to, 1, 0x7E, on, closing];
-    bytes::copy(&frame, area)
+    let head = [2, count, to, 1];
+    let foot = [closing];
+    lay(area, 0, &head);
+    lay(area, 4, block);
+    lay(area, 4 + n, &foot);
+    5 + n
 }
 
 // 71h.
@@ -554,14 +551,7 @@ fn put_balances(to: u8, which: u8, v: Three, area: &mut [u8]) -> usize
     requires { ⌜ 512 ≤ length (now area) ⌝ }
     ensures { λ r. ⌜ Sent (frameOf to (balancesBlock which v)) r (now (area .entry)) (now (area .exit)) ⌝ }
 {
-    let sum = low(v.r) + high(v.r) + low(v.g) + high(v.g) + low(v.b) + high(v.b);
-    let all = 10 + to as u32 + 1 + 0x71 + which as u32 + sum;
-    let closing = ((256 - all % 256) % 256) as u8;
-    let frame = [
-        2,
-        10,
-        to,
-        1,
+    let block = [
         0x71,
         which,
         (v.r % 256) as u8,
@@ -570,21 +560,8 @@ fn put_balances(to: u8, which: u8, v: Three, area: &mut [u8]) -> usize
         (v.g / 256) as u8,
         (v.b % 256) as u8,
         (v.b / 256) as u8,
-        closing,
     ];
-    bytes::copy(&frame, area)
-}
-
-fn low(v: u16) -> u32
-    ensures { λ r. ⌜ (r ≡ v % 256) × (r < 256) ⌝ }
-{
-    (v % 256) as u32
-}
-
-fn high(v: u16) -> u32
-    ensures { λ r. ⌜ (r ≡ v / 256) × (r < 256) ⌝ }
-{
-    (v / 256) as u32
+    put_frame(to, &block, area)
 }
 
 // The reply's bytes at the area's front, and their number.
@@ -594,9 +571,9 @@ fn send(reply: Reply, area: &mut [u8]) -> usize
 {
     match reply {
         Reply::Silent => 0,
-        Reply::Ack(to) => put_short(to, 4, area),
-        Reply::Nak(to) => put_short(to, 5, area),
-        Reply::State(to, on) => put_state(to, on, area),
+        Reply::Ack(to) => put_frame(to, &[4], area),
+        Reply::Nak(to) => put_frame(to, &[5], area),
+        Reply::State(to, on) => put_frame(to, &[0x7E, on], area),
         Reply::Balances(to, which, v) => put_balances(to, which, v, area),
     }
 }

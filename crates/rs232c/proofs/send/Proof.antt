@@ -11,20 +11,29 @@ enum-told c = search needs
 enum-known-reply : tie.Need-enum-known-reply
 enum-known-reply c = search needs
 
-put-short-requires : tie.Need-put-short-requires
-put-short-requires c κs = search needs
+slice-aggregate-put-frame : tie.Need-slice-aggregate-put-frame
+slice-aggregate-put-frame c = search needs
+
+put-frame-requires : tie.Need-put-frame-requires
+put-frame-requires c κs = search needs
 
 enum-known-reply-2 : tie.Need-enum-known-reply-2
 enum-known-reply-2 c = search needs
 
-put-short-requires-2 : tie.Need-put-short-requires-2
-put-short-requires-2 c κs = search needs
+slice-aggregate-put-frame-2 : tie.Need-slice-aggregate-put-frame-2
+slice-aggregate-put-frame-2 c = search needs
+
+put-frame-requires-2 : tie.Need-put-frame-requires-2
+put-frame-requires-2 c κs = search needs
 
 enum-known-reply-3 : tie.Need-enum-known-reply-3
 enum-known-reply-3 c = search needs
 
-put-state-requires : tie.Need-put-state-requires
-put-state-requires c κs = search needs
+slice-aggregate-put-frame-3 : tie.Need-slice-aggregate-put-frame-3
+slice-aggregate-put-frame-3 c = search needs
+
+put-frame-requires-3 : tie.Need-put-frame-requires-3
+put-frame-requires-3 c κs = search needs
 
 enum-known-reply-4 : tie.Need-enum-known-reply-4
 enum-known-reply-4 c = search needs
@@ -41,21 +50,21 @@ same-length c = search needs
 
 returns-2 : tie.Need-returns-2
 unfolding bytesOf
-returns-2 c = rw (c .before .before .before .before .before .reply .given .1) (c .before .before .put-short .ensures)
+returns-2 c = rw (c .before .before .before .before .before .before .reply .given .1) (c .before .before .put-frame .ensures)
 
 same-length-2 : tie.Need-same-length-2
 same-length-2 c = search needs
 
 returns-3 : tie.Need-returns-3
 unfolding bytesOf
-returns-3 c = rw (c .before .before .before .before .before .reply2 .given .1) (c .before .before .put-short2 .ensures)
+returns-3 c = rw (c .before .before .before .before .before .before .reply2 .given .1) (c .before .before .put-frame2 .ensures)
 
 same-length-3 : tie.Need-same-length-3
 same-length-3 c = search needs
 
 returns-4 : tie.Need-returns-4
 unfolding bytesOf
-returns-4 c = rw (c .before .before .before .before .before .reply3 .given .1) (c .before .before .put-state .ensures)
+returns-4 c = rw (c .before .before .before .before .before .before .reply3 .given .1) (c .before .before .put-frame3 .ensures)
 
 same-length-4 : tie.Need-same-length-4
 same-length-4 c = search needs
@@ -70,11 +79,14 @@ send-spec =
     (tie.spec
     enum-told
     enum-known-reply
-    put-short-requires
+    slice-aggregate-put-frame
+    put-frame-requires
     enum-known-reply-2
-    put-short-requires-2
+    slice-aggregate-put-frame-2
+    put-frame-requires-2
     enum-known-reply-3
-    put-state-requires
+    slice-aggregate-put-frame-3
+    put-frame-requires-3
     enum-known-reply-4
     put-balances-requires
     returns
