@@ -16,6 +16,11 @@ pub and-right : (a b : Bool) → T (a && b) → T b
 and-right true b t = t
 and-right false b t = absurd t
 
+-- what was computed is so
+pub sure : (b : Bool) → T b → b ≡ true
+sure true t = refl
+sure false t = absurd t
+
 -- what is computed of every number below n holds at each
 pub below : (n : ℕ) (f : ℕ → Bool) → T (everyBelow n f) → (k : ℕ) → k < n → T (f k)
 below zero f t k h = let z : ⊥ = omega arith in absurd z

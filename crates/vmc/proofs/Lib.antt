@@ -2,5 +2,6 @@ pub mod Back
 pub mod Determined
 mod Levels
 pub mod Only
-mod Phrases
+pub mod Phrases
+pub mod Plain
 mod Signs

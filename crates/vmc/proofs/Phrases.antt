@@ -14,6 +14,7 @@ use Rattle.laws.proofs.Areas.{laid-fits, laid-first, laid-more, over-front}
 use Rattle.numbers.specs.Decimals.{inDigits, numeral, spelled}
 use Rattle.numbers.specs.declared.Numeral.{Numeral}
 use Rattle.vmc.specs.Texts.{textual}
+use Rattle.vmc.specs.declared.Text.{Text}
 
 zeros : ℕ → List ℕ
 zeros n = replicate n 0
@@ -68,3 +69,18 @@ three (x ∷ y ∷ z ∷ w ∷ l) e = absurd (omega arith)
 pub signed-front : (s v : ℕ) (n : Numeral) → n ≡ spelled v → length (n .bytes) ≡ 3 → take (n .len + 1) (s ∷ getD (n .bytes) 0 0 ∷ getD (n .bytes) 1 0 ∷ getD (n .bytes) 2 0 ∷ []) ≡ s ∷ numeral v
 signed-front s v n e l =
     ap (λ (b : List ℕ). take (n .len + 1) (s ∷ b)) (three (n .bytes) l) ∙ ap (λ (k : ℕ). take k (s ∷ n .bytes)) (add-one (n .len)) ∙ ap (λ (b : List ℕ). s ∷ b) (digits-front v n e)
+
+-- a text's front is read back by its length
+pub text-front : (l : List ℕ) (t : Text) → t ≡ textual l → take (t .len) (t .bytes) ≡ l
+unfolding textual
+text-front l t e = ap (λ (x : Text). take (x .len) (x .bytes)) e ∙ take-at l (replicate (20 - length l) 0) (length l) refl
+
+pub text-length : (l : List ℕ) (t : Text) → t ≡ textual l → t .len ≡ length l
+unfolding textual
+text-length l t e = ap (λ (x : Text). x .len) e
+
+pub text-fits : (l : List ℕ) (t : Text) → t ≡ textual l → length (t .bytes) ≡ 20 → length l ≤ 20
+unfolding textual zeros
+text-fits l t e h =
+    let q : length l + length (zeros (20 - length l)) ≡ 20 = sym (length-append l (zeros (20 - length l))) ∙ ap (λ (x : Text). length (x .bytes)) (sym e) ∙ h in
+    omega (arith, q)

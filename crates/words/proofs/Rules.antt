@@ -1,15 +1,15 @@
 -- The rules of the rows of texts, each from one test computed over all rows.
 use Prim.Native.Nat.{ℕ, _+_, _-_, _*_, _<_, _≤_}
-use mathlib.Core.Path.{_≡_, refl}
-use mathlib.Core.Bool.{Bool, true, false}
+use mathlib.Core.Path.{_≡_}
+use mathlib.Core.Bool.{Bool}
 use mathlib.Core.List.{List, [], _∷_, _++_, map}
 use native.Mathlib.Omega.{arith}
-use lib.Dec.{T, eqb, leb, eqb→eq, leb→le}
+use lib.Dec.{eqb, leb, eqb→eq, leb→le}
 use lib.ListN.{length, getD, take, drop, replicate, List·getD-map, List·getD-eq-default}
 use Rattle.laws.specs.Bytes.{same}
 use Rattle.laws.specs.Lists.{everyBelow}
 use Rattle.laws.proofs.Lists.{same-is}
-use Rattle.laws.proofs.Table.{below}
+use Rattle.laws.proofs.Table.{below, sure}
 use Rattle.words.specs.Names.{names, leads, nameOf, leadOf, wordsOf, wordOf}
 use Rattle.words.specs.Rows.{values, textOf, bareOf}
 
@@ -20,10 +20,6 @@ laid (t ∷ ts) = t ++ (replicate (13 - length t) 95 ++ laid ts)
 
 abbrev pub rows : List ℕ
 rows = laid (leads ++ values)
-
-sure : (b : Bool) → T b → b ≡ true
-sure true t = refl
-sure false t = absurd t
 
 short : ℕ → Bool
 short row = leb (length (textOf row)) 13

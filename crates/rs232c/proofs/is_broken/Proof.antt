@@ -1,13 +1,9 @@
 -- `is_broken` asks the byte count, then the sum of all behind the first byte.
-use Prim.Native.Nat.{ℕ, _-_}
 use mathlib.Core.Path.{_≡_, sym, ap, _∙_}
 use mathlib.Core.Bool.{true, false}
-use mathlib.Core.List.{List}
-use lib.ListN.{length, take, drop, length-drop}
-use lib.Seq.{take-all}
+use lib.ListN.{drop}
 use borrow.Author.Tests.{eq-eqb, ne-eqb}
 use borrow.Author.Needs.{needs}
-use native.Mathlib.Omega.{arith}
 use Rattle.laws.proofs.Lists.{rest}
 use Rattle.rs232c.specs.Frames.{isBroken}
 use Rattle.sums.specs.Sums.{sumsToZero}

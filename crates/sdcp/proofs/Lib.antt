@@ -1,0 +1,4 @@
+pub mod Determined
+mod Examples
+mod Packets
+pub mod Told

@@ -1,0 +1,78 @@
+-- `hear` gives the first refusal that applies, and else what the words of the data say.
+use mathlib.Core.Path.{_≡_, sym, ap, _∙_}
+use borrow.Author.Tests.{lt-ltb, le-ltb, not-true, not-false}
+use borrow.Author.Needs.{needs}
+use Rattle.laws.proofs.Lists.{rest}
+use Rattle.vmc.specs.Reading.{readData}
+use Rattle.vmc.specs.declared.Words.the-variants.{Understood, Strange}
+use Rattle.sdcp.specs.Packets.{inWords, dataOf, heardOf}
+use Rattle.sdcp.proofs.hear.Statement.{statement}
+use Rattle.sdcp.proofs.hear.Tie as tie
+
+returns : tie.Need-returns
+unfolding heardOf
+returns c = sym (rw (lt-ltb _ _ (c .if1 .taken)))
+
+is-ours-requires : tie.Need-is-ours-requires
+is-ours-requires c κs = search needs
+
+returns-2 : tie.Need-returns-2
+unfolding heardOf
+returns-2 c = sym (rw (le-ltb _ _ (c .before .before .if1 .left), ← c .before .is-ours .ensures, not-true (c .before .is-ours .result) (c .if2 .taken)))
+
+is-broken-requires : tie.Need-is-broken-requires
+is-broken-requires c κs = search needs
+
+returns-3 : tie.Need-returns-3
+unfolding heardOf
+returns-3 c = sym (rw (le-ltb _ _ (c .before .before .before .before .if1 .left), ← c .before .before .before .is-ours .ensures, not-false (c .before .before .before .is-ours .result) (c .before .before .if2 .left), ← c .before .is-broken .ensures, c .if3 .taken))
+
+sub-read-data : tie.Need-sub-read-data
+sub-read-data c = search needs
+
+part-read-data-start : tie.Need-part-read-data-start
+part-read-data-start c = search needs
+
+part-read-data-end : tie.Need-part-read-data-end
+part-read-data-end c = search needs
+
+read-data-requires : tie.Need-read-data-requires
+read-data-requires c κs = search needs
+
+enum-known-o : tie.Need-enum-known-o
+enum-known-o c = search needs
+
+enum-told : tie.Need-enum-told
+enum-told c = search needs
+
+returns-4 : tie.Need-returns-4
+unfolding heardOf
+returns-4 c =
+    let m = c .before .before .before .before .before .before .before .before .before .before .args .m .now in
+    let e : readData (dataOf m) ≡ Strange = ap readData (sym (rest m 13)) ∙ sym (c .before .before .read-data .ensures) ∙ c .enum-told .given .1 in
+    sym (rw (le-ltb _ _ (c .before .before .before .before .before .before .before .before .if1 .left), ← c .before .before .before .before .before .before .before .is-ours .ensures, not-false (c .before .before .before .before .before .before .before .is-ours .result) (c .before .before .before .before .before .before .if2 .left), ← c .before .before .before .before .before .is-broken .ensures, c .before .before .before .before .if3 .left) (ap inWords e))
+
+returns-5 : tie.Need-returns-5
+unfolding heardOf
+returns-5 c =
+    let m = c .before .before .before .before .before .before .before .before .before .before .before .args .m .now in
+    let e : readData (dataOf m) ≡ Understood (c .before .o .given .0 .0) = ap readData (sym (rest m 13)) ∙ sym (c .before .before .before .read-data .ensures) ∙ c .before .o .given .1 in
+    sym (rw (le-ltb _ _ (c .before .before .before .before .before .before .before .before .before .if1 .left), ← c .before .before .before .before .before .before .before .before .is-ours .ensures, not-false (c .before .before .before .before .before .before .before .before .is-ours .result) (c .before .before .before .before .before .before .before .if2 .left), ← c .before .before .before .before .before .before .is-broken .ensures, c .before .before .before .before .before .if3 .left) (ap inWords e))
+
+pub hear-spec : {M : Type 1} → statement M
+hear-spec =
+    tie.close
+    (tie.spec
+    returns
+    is-ours-requires
+    returns-2
+    is-broken-requires
+    returns-3
+    sub-read-data
+    part-read-data-start
+    part-read-data-end
+    read-data-requires
+    enum-known-o
+    enum-told
+    returns-4
+    returns-5)

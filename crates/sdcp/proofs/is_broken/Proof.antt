@@ -1,0 +1,68 @@
+-- `is_broken` asks the fields in turn.
+use mathlib.Core.Path.{sym}
+use borrow.Author.Tests.{eq-eqb, ne-eqb, lt-ltb, le-ltb}
+use borrow.Author.Needs.{needs}
+use Rattle.sdcp.specs.Packets.{isBroken}
+use Rattle.sdcp.proofs.is_broken.Statement.{statement}
+use Rattle.sdcp.proofs.is_broken.Tie as tie
+
+byte-at-requires : tie.Need-byte-at-requires
+byte-at-requires c κs = search needs
+
+returns : tie.Need-returns
+unfolding isBroken
+returns c = sym (rw (← c .before .byte-at .ensures, ne-eqb _ _ (c .if1 .taken)))
+
+byte-at-requires-2 : tie.Need-byte-at-requires-2
+byte-at-requires-2 c κs = search needs
+
+byte-at-requires-3 : tie.Need-byte-at-requires-3
+byte-at-requires-3 c κs = search needs
+
+number2-requires : tie.Need-number2-requires
+number2-requires c κs = search needs
+
+returns-2 : tie.Need-returns-2
+unfolding isBroken
+returns-2 c = sym (rw (← c .before .before .before .before .before .byte-at .ensures, eq-eqb _ _ (c .before .before .before .before .if1 .left), ← c .before .before .before .byte-at2 .ensures, ← c .before .before .byte-at3 .ensures, ← c .before .number2 .ensures, ne-eqb _ _ (c .if2 .taken)))
+
+byte-at-requires-4 : tie.Need-byte-at-requires-4
+byte-at-requires-4 c κs = search needs
+
+byte-at-requires-5 : tie.Need-byte-at-requires-5
+byte-at-requires-5 c κs = search needs
+
+number2-requires-2 : tie.Need-number2-requires-2
+number2-requires-2 c κs = search needs
+
+cast-size : tie.Need-cast-size
+cast-size c = search needs
+
+returns-3 : tie.Need-returns-3
+unfolding isBroken
+returns-3 c = sym (rw (← c .before .before .before .before .before .before .before .before .before .byte-at .ensures, eq-eqb _ _ (c .before .before .before .before .before .before .before .before .if1 .left), ← c .before .before .before .before .before .before .before .byte-at2 .ensures, ← c .before .before .before .before .before .before .byte-at3 .ensures, ← c .before .before .before .before .before .number2 .ensures, eq-eqb _ _ (c .before .before .before .before .if2 .left), ← c .before .before .before .byte-at4 .ensures, ← c .before .before .byte-at5 .ensures, ← c .before .number22 .ensures, lt-ltb _ _ (c .if3 .taken)))
+
+sub-result : tie.Need-sub-result
+sub-result c = search needs
+
+returns-4 : tie.Need-returns-4
+unfolding isBroken
+returns-4 c = sym (rw (← c .before .before .before .before .before .before .before .before .before .byte-at .ensures, eq-eqb _ _ (c .before .before .before .before .before .before .before .before .if1 .left), ← c .before .before .before .before .before .before .before .byte-at2 .ensures, ← c .before .before .before .before .before .before .byte-at3 .ensures, ← c .before .before .before .before .before .number2 .ensures, eq-eqb _ _ (c .before .before .before .before .if2 .left), ← c .before .before .before .byte-at4 .ensures, ← c .before .before .byte-at5 .ensures, ← c .before .number22 .ensures, le-ltb _ _ (c .if3 .left)))
+
+pub is-broken-spec : {M : Type 1} → statement M
+is-broken-spec =
+    tie.close
+    (tie.spec
+    byte-at-requires
+    returns
+    byte-at-requires-2
+    byte-at-requires-3
+    number2-requires
+    returns-2
+    byte-at-requires-4
+    byte-at-requires-5
+    number2-requires-2
+    cast-size
+    returns-3
+    sub-result
+    returns-4)
