@@ -1,5 +1,6 @@
 pub mod Back
 pub mod Determined
+pub mod Kept
 mod Levels
 pub mod Only
 mod Phrases
