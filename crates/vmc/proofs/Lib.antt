@@ -1,3 +1,4 @@
+pub mod Asked
 pub mod Back
 pub mod Determined
 pub mod Kept
