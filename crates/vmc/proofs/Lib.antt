@@ -1,6 +1,7 @@
 pub mod Asked
 pub mod Back
 pub mod Determined
+mod Examples
 pub mod Kept
 mod Levels
 pub mod Only
