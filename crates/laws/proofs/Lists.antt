@@ -9,7 +9,7 @@ use native.Mathlib.Numerals.{add-one}
 use lib.Dec.{eqb, leb, lit<}
 use lib.ListN.{length, getD, set, take, drop, drop-of-length-le, length-drop}
 use lib.Seq.{drop-cons, drop-drop, take-add, take-all, getD-drop, getD-take, length-take-le}
-use borrow.Author.Tests.{eqb-true, eq-eqb, le-leb}
+use borrow.Author.Tests.{eqb-true, eq-eqb, leb-true, le-leb}
 use Rattle.laws.specs.Bytes.{Bytes, part, same}
 use Rattle.laws.specs.Lists.{every, listed, within, places}
 use Rattle.laws.proofs.Conditions.{and-first, and-second, and-both, false-true}
@@ -136,3 +136,36 @@ places-at (suc n) i (suc k) f d h = places-at n (i + 1) k f d (omega arith) ∙ 
 pub places-length : {A : Type 0} (n i : ℕ) (f : ℕ → A) → length (places n i f) ≡ n
 places-length zero i f = refl
 places-length (suc n) i f = ap suc (places-length n (i + 1) f)
+
+-- numbers within their bounds stay so where one is set to a number within
+pub within-set : (l bs : List ℕ) (k v : ℕ) → within l bs ≡ true → v ≤ getD bs k v → within (set l k v) bs ≡ true
+within-set [] bs k v e h = e
+within-set (x ∷ l) [] zero v e h = refl
+within-set (x ∷ l) [] (suc k) v e h = refl
+within-set (x ∷ l) (b ∷ bs) zero v e h = and-both (leb v b) (within l bs) (le-leb v b h) (and-second (leb x b) (within l bs) e)
+within-set (x ∷ l) (b ∷ bs) (suc k) v e h = and-both (leb x b) (within (set l k v) bs) (and-first (leb x b) (within l bs) e) (within-set l bs k v (and-second (leb x b) (within l bs) e) h)
+
+-- a bound that stands where a list reads 0 past its end stands whatever it reads there
+pub bound-at : (bs : List ℕ) (k v : ℕ) → v ≤ getD bs k 0 → v ≤ getD bs k v
+bound-at [] k v h = omega arith
+bound-at (b ∷ bs) zero v h = h
+bound-at (b ∷ bs) (suc k) v h = bound-at bs k v h
+
+-- numbers within their bounds: each is at most its own
+pub within-at : (l bs : List ℕ) (k : ℕ) → within l bs ≡ true → length l ≡ length bs → getD l k 0 ≤ getD bs k 0
+within-at [] bs k e h = omega arith
+within-at (x ∷ l) [] k e h = absurd (omega arith)
+within-at (x ∷ l) (b ∷ bs) zero e h = leb-true x b (and-first (leb x b) (within l bs) e)
+within-at (x ∷ l) (b ∷ bs) (suc k) e h = within-at l bs k (and-second (leb x b) (within l bs) e) (omega arith)
+
+-- what is asked of every element is asked of each
+pub every-at : {A : Type 0} (f : A → Bool) (l : List A) (k : ℕ) (d : A) → every f l ≡ true → k < length l → f (getD l k d) ≡ true
+every-at f [] k d e h = absurd (omega arith)
+every-at f (x ∷ l) zero d e h = and-first (f x) (every f l) e
+every-at f (x ∷ l) (suc k) d e h = every-at f l k d (and-second (f x) (every f l) e) (omega arith)
+
+-- and stays so where an element is set to one that passes
+pub every-set : {A : Type 0} (f : A → Bool) (l : List A) (k : ℕ) (v : A) → every f l ≡ true → f v ≡ true → every f (set l k v) ≡ true
+every-set f [] k v e h = e
+every-set f (x ∷ l) zero v e h = and-both (f v) (every f l) h (and-second (f x) (every f l) e)
+every-set f (x ∷ l) (suc k) v e h = and-both (f x) (every f (set l k v)) (and-first (f x) (every f l) e) (every-set f l k v (and-second (f x) (every f l) e) h)

@@ -12,9 +12,9 @@ use borrow.Author.Tests.{le-leb, ltb-true, ltb-false, not-false}
 use Rattle.laws.specs.Lists.{every, listed, within}
 use Rattle.laws.proofs.Conditions.{and-first, and-second, and-both, choose}
 use Rattle.laws.proofs.Lists.{within-set}
-use Rattle.settings.specs.Table.{mosts}
 use Rattle.panels.specs.Records.{connectors, presets}
-use Rattle.panels.specs.Valid.{okShift, okGain, okBias, okInputs, okBalance, okW}
+use Rattle.panels.specs.Valid.{okGain, okBias, okInputs, okBalance, okW}
+use Rattle.panels.proofs.Ranges.{InRange, parts, whole}
 use Rattle.panels.specs.declared.Inputs.{Inputs}
 use Rattle.panels.specs.declared.Balance.{Balance}
 use Rattle.panels.specs.declared.WRecord.{WRecord}
@@ -86,28 +86,6 @@ bias-ok v = go (ltb (v % 2048) 1024) refl
     go false e = let h = ltb-false (v % 2048) 1024 e in and-both (leb (2047 - v % 2048) 1023) true (le-leb (2047 - v % 2048) 1023 (omega arith)) refl
 
 -- ---- the record
-
-pub record InRange (w : WRecord) : Type 0 where
-  pub settings-ok : within (w .settings) mosts ≡ true
-  pub shifts-ok : every okShift (w .shifts) ≡ true
-  pub inputs-ok : okInputs (w .inputs) ≡ true
-  pub balance-ok : okBalance (w .balance) ≡ true
-
-parts : (w : WRecord) → okW w ≡ true → InRange w
-unfolding okW
-parts w e =
-    let a = and-first (within (w .settings) mosts && every okShift (w .shifts) && okInputs (w .inputs)) (okBalance (w .balance)) e in
-    let b = and-first (within (w .settings) mosts && every okShift (w .shifts)) (okInputs (w .inputs)) a in
-    record {
-      settings-ok = and-first (within (w .settings) mosts) (every okShift (w .shifts)) b;
-      shifts-ok = and-second (within (w .settings) mosts) (every okShift (w .shifts)) b;
-      inputs-ok = and-second (within (w .settings) mosts && every okShift (w .shifts)) (okInputs (w .inputs)) a;
-      balance-ok = and-second (within (w .settings) mosts && every okShift (w .shifts) && okInputs (w .inputs)) (okBalance (w .balance)) e;
-    }
-
-whole : (w : WRecord) → InRange w → okW w ≡ true
-unfolding okW
-whole w r = rw (r .settings-ok, r .shifts-ok, r .inputs-ok, r .balance-ok)
 
 -- what is known of an order that was understood
 abbrev Good : Order → Type 0

@@ -1,5 +1,8 @@
+pub mod Asked
 pub mod Back
 pub mod Determined
+mod Examples
+pub mod Kept
 mod Levels
 pub mod Only
 pub mod Phrases

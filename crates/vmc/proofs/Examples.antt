@@ -1,0 +1,153 @@
+-- The bench's VMC words, words that nearly are some, and one of each kind that is understood, by computation.
+use Prim.Native.Nat.{ℕ}
+use mathlib.Core.Path.{_≡_, refl}
+use mathlib.Core.Bool.{Bool, true, false}
+use mathlib.Core.List.{List, [], _∷_, _++_, map}
+use lib.IntN.{pos, negsuc}
+use Rattle.laws.specs.Bytes.{ascii}
+use Rattle.laws.specs.Lists.{every}
+use Rattle.numbers.specs.Decimals.{isDigit, decimal, inDigits, numeral}
+use Rattle.panels.specs.Records.{startW}
+use Rattle.panels.specs.declared.WRecord.{WRecord}
+use Rattle.words.specs.Names.{namedBy, ledBy, chosenBy}
+use Rattle.vmc.specs.Orders.{carried, toldOf}
+use Rattle.vmc.specs.Reading.{leadsZero, isNumeral, levelOf, shiftOrder, valueOrder, readSet, readGet, readData}
+use Rattle.vmc.specs.Texts.{valueWords, shiftWords, setWords, moveWords, textOf}
+use Rattle.vmc.specs.declared.Order.the-variants.{Set, Shift, Reset, Get}
+use Rattle.vmc.specs.declared.Told.the-variants.{Value, Offset}
+use Rattle.vmc.specs.declared.Words.{Words}
+use Rattle.vmc.specs.declared.Words.the-variants.{Understood, Strange}
+
+-- the record after some words, and the words that then go back; words that are not understood do neither
+after : Words → WRecord → WRecord
+after (Understood o) w = carried o w
+after Strange w = w
+
+reply : Words → WRecord → List ℕ
+reply (Understood o) w = textOf (toldOf o w)
+reply Strange w = []
+
+-- * `STATset VOLUME 40`, "Then `STATget VOLUME`: length 9, `VOLUME 40`"
+bench-volume : reply (readData (ascii "STATget VOLUME")) (after (readData (ascii "STATset VOLUME 40")) startW) ≡ ascii "VOLUME 40"
+unfolding after reply readData readSet readGet valueOrder levelOf isNumeral leadsZero isDigit decimal inDigits numeral ledBy namedBy carried toldOf textOf setWords valueWords
+bench-volume = refl
+
+-- "as `VOLUME 40`, `MODE2`, `CAMERA FOCUS OFF`, `SHIFTH +5`, `SHIFTH 0`"
+texts : map textOf (Value 2 40 ∷ Value 3 2 ∷ Value 14 0 ∷ Offset 21 (pos 5) ∷ Offset 21 (pos 0) ∷ []) ≡ ascii "VOLUME 40" ∷ ascii "MODE2" ∷ ascii "CAMERA FOCUS OFF" ∷ ascii "SHIFTH +5" ∷ ascii "SHIFTH 0" ∷ []
+unfolding textOf setWords valueWords moveWords shiftWords inDigits numeral
+texts = refl
+
+-- what is understood: "VOLUME 100 is set", "SHIFTH -30 is set", and one of each kind
+taken : List (List ℕ)
+taken =
+    ascii "STATset VOLUME 100" ∷
+    ascii "STATset SHIFTH -30" ∷
+    ascii "STATset SHIFTV +5" ∷
+    ascii "STATset SHIFTV 5" ∷
+    ascii "STATset SHIFTV 0" ∷
+    ascii "STATset MODE2" ∷
+    ascii "STATset NTSC75" ∷
+    ascii "STATset RGB RANGE LIMITED" ∷
+    ascii "STATset CAMERA FOCUS ON" ∷
+    ascii "STATset FLIPHV ON" ∷
+    ascii "STATset RESET" ∷
+    ascii "STATget RGB RANGE" ∷
+    ascii "STATget FLIPH" ∷
+    ascii "STATget SHIFTV" ∷ []
+
+taken-as : map readData taken ≡
+    Understood (Set 2 100) ∷
+    Understood (Shift 0 (negsuc 29)) ∷
+    Understood (Shift 1 (pos 5)) ∷
+    Understood (Shift 1 (pos 5)) ∷
+    Understood (Shift 1 (pos 0)) ∷
+    Understood (Set 3 2) ∷
+    Understood (Set 4 1) ∷
+    Understood (Set 5 1) ∷
+    Understood (Set 14 1) ∷
+    Understood (Set 20 1) ∷
+    Understood Reset ∷
+    Understood (Get 5) ∷
+    Understood (Get 18) ∷
+    Understood (Get 22) ∷ []
+unfolding taken readData readSet readGet valueOrder levelOf isNumeral leadsZero isDigit decimal ledBy namedBy chosenBy shiftOrder
+taken-as = refl
+
+-- "101: 6", "-31 and -0: 6"; other signs, leading zeros, twenty digits (2 ^ 64 and 40)
+numbers-off : List (List ℕ)
+numbers-off =
+    ascii "STATset VOLUME 101" ∷
+    ascii "STATset SHIFTH -31" ∷
+    ascii "STATset SHIFTH -0" ∷
+    ascii "STATset SHIFTH +0" ∷
+    ascii "STATset SHIFTH 05" ∷
+    ascii "STATset SHIFTH +31" ∷
+    ascii "STATset SHIFTH 31" ∷
+    ascii "STATset SHIFTH +-5" ∷
+    ascii "STATset SHIFTH +" ∷
+    ascii "STATset SHIFTH" ∷
+    ascii "STATset VOLUME 040" ∷
+    ascii "STATset VOLUME 00" ∷
+    ascii "STATset VOLUME +40" ∷
+    ascii "STATset VOLUME 4O" ∷
+    ascii "STATset VOLUME " ∷
+    ascii "STATset VOLUME" ∷
+    ascii "STATset VOLUME 18446744073709551656" ∷ []
+
+-- "Words are capitals-sensitive with one space between; a trailing space or 00h makes it not understood."
+spacing-off : List (List ℕ)
+spacing-off =
+    ascii "statset VOLUME 40" ∷
+    ascii "STATSET VOLUME 40" ∷
+    ascii "STATset volume 40" ∷
+    ascii "STATset REMOTE on" ∷
+    ascii "STATset  VOLUME 40" ∷
+    ascii "STATset VOLUME  40" ∷
+    ascii "STATset CAMERA  FOCUS ON" ∷
+    ascii "STATset VOLUME 40 " ∷
+    ascii "STATset RESET " ∷
+    ascii "STATget VOLUME " ∷
+    (ascii "STATset VOLUME 40" ++ (0x00 ∷ [])) ∷
+    (ascii "STATget VOLUME" ++ (0x00 ∷ [])) ∷
+    ascii " STATset VOLUME 40" ∷
+    (ascii "STATset" ++ (0x09 ∷ ascii "VOLUME 40")) ∷
+    (ascii "STATset VOLUME" ++ (0x09 ∷ ascii "40")) ∷ []
+
+-- "Any other data is 6."
+words-off : List (List ℕ)
+words-off =
+    [] ∷
+    ascii "STATset" ∷
+    ascii "STATset " ∷
+    ascii "STATget" ∷
+    ascii "STATget " ∷
+    ascii "VOLUME 40" ∷
+    ascii "STATset VOLUME 40 41" ∷
+    ascii "STATset MODE3" ∷
+    ascii "STATset MODE 0" ∷
+    ascii "STATset MODE" ∷
+    ascii "STATset NTSC 0" ∷
+    ascii "STATset NTSC750" ∷
+    ascii "STATset RGB RANGE" ∷
+    ascii "STATset RGB RANGE LIMITEDX" ∷
+    ascii "STATset FLIP ON" ∷
+    ascii "STATset FLIPHON" ∷
+    ascii "STATset REMOTE" ∷
+    ascii "STATget RESET" ∷
+    ascii "STATget VOLUME 40" ∷
+    ascii "STATget MODE0" ∷
+    ascii "STATget RGB" ∷
+    ascii "STATget CAMERA" ∷
+    ascii "STATget FLIPHVX" ∷ []
+
+isStrange : Words → Bool
+isStrange (Understood o) = false
+isStrange Strange = true
+
+strange : List ℕ → Bool
+strange d = isStrange (readData d)
+
+-- none of these is understood
+none-taken : every strange (numbers-off ++ spacing-off ++ words-off) ≡ true
+unfolding numbers-off spacing-off words-off isStrange strange readData readSet readGet valueOrder levelOf isNumeral leadsZero isDigit decimal ledBy namedBy chosenBy shiftOrder
+none-taken = refl
