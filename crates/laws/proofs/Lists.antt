@@ -137,14 +137,6 @@ pub places-length : {A : Type 0} (n i : ℕ) (f : ℕ → A) → length (places 
 places-length zero i f = refl
 places-length (suc n) i f = ap suc (places-length n (i + 1) f)
 
--- numbers within their bounds stay so where one is set to a number within
-pub within-set : (l bs : List ℕ) (k v : ℕ) → within l bs ≡ true → v ≤ getD bs k v → within (set l k v) bs ≡ true
-within-set [] bs k v e h = e
-within-set (x ∷ l) [] zero v e h = refl
-within-set (x ∷ l) [] (suc k) v e h = refl
-within-set (x ∷ l) (b ∷ bs) zero v e h = and-both (leb v b) (within l bs) (le-leb v b h) (and-second (leb x b) (within l bs) e)
-within-set (x ∷ l) (b ∷ bs) (suc k) v e h = and-both (leb x b) (within (set l k v) bs) (and-first (leb x b) (within l bs) e) (within-set l bs k v (and-second (leb x b) (within l bs) e) h)
-
 -- a bound that stands where a list reads 0 past its end stands whatever it reads there
 pub bound-at : (bs : List ℕ) (k v : ℕ) → v ≤ getD bs k 0 → v ≤ getD bs k v
 bound-at [] k v h = omega arith
