@@ -37,6 +37,13 @@ pub record Turn : Type 0 where
   pub answer : Answer
   pub reply : Reply
 
+-- the answer to what was heard, whatever the panel
+abbrev pub answerOf : Heard → Answer
+answerOf (Refused a) = a
+answerOf Broken = EnvelopeWrong
+answerOf Strange = NotUnderstood
+answerOf (Understood o) = Done
+
 -- 5 is "SDCP NG by TCP", 6 "SDCP OK with no data by TCP"
 unfoldable pub turned : Heard → WRecord → Turn
 turned (Refused a) w = record { after = w; answer = a; reply = Silent }

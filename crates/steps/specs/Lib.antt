@@ -1,0 +1,4 @@
+pub mod Messages
+pub mod Addressing
+pub mod Step
+pub mod Run

@@ -1,0 +1,124 @@
+-- Document 01, "Answer numbers" and the forms: the one step, what a message does to a box.
+use Prim.Native.Nat.{ℕ, _-_}
+use mathlib.Core.Bool.{Bool, cond}
+use mathlib.Core.List.{List, []}
+use lib.Dec.{eqb, ltb}
+use lib.ListN.{length, getD}
+use Rattle.laws.specs.Bytes.{sent}
+use Rattle.laws.specs.Runs.{each}
+use Rattle.terms.specs.Answers.{numberOf}
+use Rattle.terms.specs.declared.Answer.{Answer}
+use Rattle.terms.specs.declared.Answer.the-variants.{Done, AreaTooSmall, NoSuchPanel, WrongLength, NotForUs}
+use Rattle.panels.specs.Records.{pastEnd}
+use Rattle.panels.specs.declared.Panel.{Panel}
+use Rattle.panels.specs.declared.WRecord.{WRecord}
+use Rattle.panels.specs.declared.KRecord.{KRecord}
+use Rattle.panels.specs.declared.DisplayBox.{DisplayBox}
+use Rattle.rs232c.specs.Replies as serial
+use Rattle.kjw.specs.Rules as frames
+use Rattle.sdcp.specs.Packets.{heardOf}
+use Rattle.sdcp.specs.Replies as packets
+use Rattle.steps.specs.Messages.{Message, rs232c, kjw, tcp, udp, Name, names, onLink, isW, isK}
+use Rattle.steps.specs.Addressing.{target, addressed, anyCalled}
+
+abbrev pub withW : Panel → WRecord → Panel
+withW p w = record { family = p .family; group = p .group; unit = p .unit; spare = p .spare; w = w; k = p .k }
+
+abbrev pub withK : Panel → KRecord → Panel
+withK p k = record { family = p .family; group = p .group; unit = p .unit; spare = p .spare; w = p .w; k = k }
+
+abbrev pub withPanels : DisplayBox → List Panel → DisplayBox
+withPanels b ps = record { count = b .count; panels = ps }
+
+-- ---- checks 1, 2 and 4, from the names and the message alone; Done where they are passed
+
+-- "1 reply area under 512 bytes", "2 no panel with that link number, or it is of the other family"
+abbrev pub lent : List ℕ → Bool → Answer → Answer
+lent area fits rest = cond (ltb (length area) 512) AreaTooSmall (cond fits rest NoSuchPanel)
+
+-- "Under 13 bytes: 3. [..] or no panel addressed: 4."
+unfoldable pub toNobody : List ℕ → Answer
+toNobody m = cond (ltb (length m) 13) WrongLength NotForUs
+
+unfoldable pub door : List Name → Message → Answer
+door ns (rs232c l m area) = lent area (isW (onLink ns l)) Done
+door ns (kjw l m area) = lent area (isK (onLink ns l)) Done
+door ns (tcp l m area) = lent area (isW (onLink ns l)) (cond (eqb (target ns (tcp l m area)) 0) (toNobody m) Done)
+door ns (udp m) = cond (anyCalled m ns) Done (toNobody m)
+
+-- ---- what a panel does with a message that is addressed to it: it sees its own record alone
+
+pub record Turn : Type 0 where
+  pub panel : Panel
+  pub answer : Answer
+  pub reply : List ℕ
+
+abbrev pub serialTurn : List ℕ → Panel → serial.Turn → Turn
+serialTurn m p t = record { panel = withW p (t .after); answer = t .answer; reply = serial.bytesOf (t .reply) }
+
+abbrev pub frameTurn : Panel → frames.Outcome → Turn
+frameTurn p t = record { panel = withK p (t .k); answer = t .answer; reply = t .reply }
+
+abbrev pub packetTurn : List ℕ → Panel → packets.Turn → Turn
+packetTurn m p t = record { panel = withW p (t .after); answer = t .answer; reply = packets.bytesOf m (t .reply) }
+
+unfoldable pub turn : Message → Panel → Turn
+turn (rs232c l m area) p = serialTurn m p (serial.told (length area) m (p .w))
+turn (kjw l m area) p = frameTurn p (frames.met (length area) m (p .k))
+turn (tcp l m area) p = packetTurn m p (packets.told (length area) m (p .w))
+turn (udp m) p = packetTurn m p (packets.turned (heardOf m) (p .w))
+
+-- ---- the step
+
+-- what goes back: the reply's length and the area after it; by UDP there is neither
+pub record Back : Type 0 where
+  pub len : ℕ
+  pub area : List ℕ
+
+abbrev pub backOn : List ℕ → List ℕ → Back
+backOn area reply = record { len = length reply; area = sent reply area }
+
+abbrev pub nothing : Back
+nothing = record { len = 0; area = [] }
+
+abbrev pub back : Message → List ℕ → Back
+back (rs232c l m area) reply = backOn area reply
+back (kjw l m area) reply = backOn area reply
+back (tcp l m area) reply = backOn area reply
+back (udp m) reply = nothing
+
+pub record Outcome : Type 0 where
+  pub box : DisplayBox
+  pub answer : Answer
+  pub back : Back
+
+abbrev pub panelAt : ℕ → DisplayBox → Panel
+panelAt i b = getD (b .panels) i pastEnd
+
+-- the turn of the one panel that a message with a link addresses
+abbrev pub ownTurn : List Name → DisplayBox → Message → Turn
+ownTurn ns b m = turn m (panelAt (target ns m - 1) b)
+
+-- by UDP the answer is that of what was heard, which is the same for every panel that is called
+abbrev pub answerTo : List Name → DisplayBox → Message → Answer
+answerTo ns b (rs232c l m area) = ownTurn ns b (rs232c l m area) .answer
+answerTo ns b (kjw l m area) = ownTurn ns b (kjw l m area) .answer
+answerTo ns b (tcp l m area) = ownTurn ns b (tcp l m area) .answer
+answerTo ns b (udp m) = packets.answerOf (heardOf m)
+
+abbrev pub passed : List Name → DisplayBox → Message → Outcome
+passed ns b m = record {
+  box = withPanels b (each (addressed ns m) (λ (p : Panel). turn m p .panel) (b .panels));
+  answer = answerTo ns b m;
+  back = back m (ownTurn ns b m .reply);
+}
+
+-- "unchanged", "none"
+abbrev pub refused : DisplayBox → Message → Answer → Outcome
+refused b m a = record { box = b; answer = a; back = back m [] }
+
+abbrev pub through : List Name → DisplayBox → Message → Answer → Outcome
+through ns b m a = cond (eqb (numberOf a) 0) (passed ns b m) (refused b m a)
+
+unfoldable pub step : DisplayBox → Message → Outcome
+step b m = through (names b) b m (door (names b) m)
