@@ -6,7 +6,7 @@ use mathlib.Core.Bool.{Bool, true, false, cond}
 use mathlib.Core.List.{List, [], _∷_, map}
 use native.Mathlib.Omega.{arith}
 use lib.ListN.{length, getD, set, take}
-use Rattle.laws.specs.Runs.{runBy, keptBy, heardBy, each}
+use Rattle.laws.specs.Runs.{runBy, keptBy, heardBy, each, firstEach}
 
 -- what a step does to one place (`place`) under the addressing of the moment (`names`): it stays, or it takes its turn
 pub record Alone {B C M A R : Type 0} (sound : B → Type 0) (names : B → C) (place : B → A) (step : B → M → B) (heard : B → M → R) (next : C → M → C) (kept : C → M → Bool) (turn : C → M → A → A) (says : C → M → A → R) : Type 0 where
@@ -92,3 +92,34 @@ module _ {A : Type 0} where
       go : (b : Bool) → g (cond b (f x) x) ≡ g x
       go true = e x
       go false = refl
+
+-- ---- f at each of the first n elements, one more at a time
+
+module _ {A : Type 0} where
+  pub first-length : (f : A → A) (n : ℕ) (l : List A) → length (firstEach f n l) ≡ length l
+  first-length f zero l = refl
+  first-length f (suc n) [] = refl
+  first-length f (suc n) (x ∷ l) = ap suc (first-length f n l)
+
+  -- the element behind them is still as it was
+  pub first-next : (f : A → A) (n : ℕ) (l : List A) (d : A) → getD (firstEach f n l) n d ≡ getD l n d
+  first-next f zero l d = refl
+  first-next f (suc n) [] d = refl
+  first-next f (suc n) (x ∷ l) d = first-next f n l d
+
+  pub first-more : (f : A → A) (n : ℕ) (l : List A) (d : A) → n < length l → set (firstEach f n l) n (f (getD l n d)) ≡ firstEach f (suc n) l
+  first-more f n [] d h = absurd (omega arith)
+  first-more f zero (x ∷ l) d h = refl
+  first-more f (suc n) (x ∷ l) d h = ap (λ (t : List A). f x ∷ t) (first-more f n l d (omega arith))
+
+  -- where f leaves it, nothing is stored
+  pub first-skip : (f : A → A) (n : ℕ) (l : List A) (d : A) → n < length l → f (getD l n d) ≡ getD l n d → firstEach f n l ≡ firstEach f (suc n) l
+  first-skip f n [] d h e = absurd (omega arith)
+  first-skip f zero (x ∷ l) d h e = ap (λ (y : A). y ∷ l) (sym e)
+  first-skip f (suc n) (x ∷ l) d h e = ap (λ (t : List A). f x ∷ t) (first-skip f n l d (omega arith) e)
+
+-- those of the first n that are called by what they are, not by where they stand
+pub first-called : {A C : Type 0} (name : A → C) (called : C → Bool) (none : C) (f : A → A) → called none ≡ false → (n : ℕ) (l : List A) → each (λ (i : ℕ). called (getD (map name (take n l)) i none)) f l ≡ firstEach (λ (x : A). cond (called (name x)) (f x) x) n l
+first-called name called none f e zero l = each-none (λ (i : ℕ). called none) f l (λ i. e)
+first-called name called none f e (suc n) [] = refl
+first-called {A} name called none f e (suc n) (x ∷ l) = ap (λ (t : List A). cond (called (name x)) (f x) x ∷ t) (first-called name called none f e n l)

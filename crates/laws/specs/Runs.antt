@@ -1,5 +1,5 @@
 -- Runs: a box through a list of messages, those of them that are kept for one place, and what was heard for these.
-use Prim.Native.Nat.{ℕ, suc}
+use Prim.Native.Nat.{ℕ, zero, suc}
 use mathlib.Core.Bool.{Bool, cond}
 use mathlib.Core.List.{List, [], _∷_}
 
@@ -22,3 +22,9 @@ heardBy step kept heard b (m ∷ ms) = cond (kept b m) (heard b m ∷ heardBy st
 abbrev pub each : {A : Type 0} → (ℕ → Bool) → (A → A) → List A → List A
 each called f [] = []
 each called f (x ∷ xs) = cond (called 0) (f x) x ∷ each (λ (i : ℕ). called (suc i)) f xs
+
+-- f at each of the first n elements
+abbrev pub firstEach : {A : Type 0} → (A → A) → ℕ → List A → List A
+firstEach f zero l = l
+firstEach f (suc n) [] = []
+firstEach f (suc n) (x ∷ xs) = f x ∷ firstEach f n xs
