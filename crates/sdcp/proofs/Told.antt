@@ -32,7 +32,7 @@ turned-answer Broken w = refl
 turned-answer Strange w = refl
 turned-answer (Understood o) w = refl
 
-turn-leaves : (h : Heard) (w : WRecord) → (numberOf (turned h w .answer) ≡ 0 → ⊥) → turned h w .after ≡ w
+pub turn-leaves : (h : Heard) (w : WRecord) → (numberOf (turned h w .answer) ≡ 0 → ⊥) → turned h w .after ≡ w
 unfolding turned
 turn-leaves (Refused a) w n = refl
 turn-leaves Broken w n = refl

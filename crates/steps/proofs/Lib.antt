@@ -1,0 +1,4 @@
+pub mod Door
+mod Finding
+pub mod Kept
+pub mod Sound
