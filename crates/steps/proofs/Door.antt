@@ -21,7 +21,7 @@ use Rattle.panels.specs.declared.DisplayBox.{DisplayBox}
 use Rattle.sdcp.specs.Packets.{groupOf, unitOf}
 use Rattle.steps.specs.Messages.{Message, rs232c, kjw, tcp, udp, Name, nobody, aW, aK, names, onLink, isW, isK}
 use Rattle.steps.specs.Addressing.{hasIds, isId, isPair, byTcp, target, isCalled, addressed, numberOf as numberIn}
-use Rattle.steps.specs.Step.{lent, toNobody, door, turn, panelAt, passed, refused, step}
+use Rattle.steps.specs.Step.{lent, toNobody, door, turn, Outcome, panelAt, passed, refused, step}
 use Rattle.steps.proofs.Finding.{found}
 
 -- checks 1, 2 and 4 are passed
@@ -56,6 +56,12 @@ speaks (rs232c l m area) x = isW x
 speaks (kjw l m area) x = isK x
 speaks (tcp l m area) x = isW x
 speaks (udp m) x = isW x
+
+pub nobody-speaks : (m : Message) → speaks m nobody ≡ false
+nobody-speaks (rs232c l m area) = refl
+nobody-speaks (kjw l m area) = refl
+nobody-speaks (tcp l m area) = refl
+nobody-speaks (udp m) = refl
 
 lent-fits : (area : List ℕ) (fits : Bool) (rest : Answer) → eqb (numberOf (lent area fits rest)) 0 ≡ true → fits ≡ true
 lent-fits area true rest e = refl
@@ -103,7 +109,12 @@ its-family ns (kjw l m area) i o a = link-is isK ns l i a (lent-fits area (isK (
 its-family ns (tcp l m area) i o a = tcp-w ns l m i (lent-fits area (isW (onLink ns l)) _ o) a
 its-family ns (udp m) i o a = called-w m (getD ns i nobody) a
 
--- ---- the step at one place
+-- ---- the step
+
+-- what holds of a message that passed the door and of one that was refused there holds of every step
+pub by-door : (P : Outcome → Type 0) (b : DisplayBox) (m : Message) → (opens (names b) m ≡ true → P (passed (names b) b m)) → (opens (names b) m ≡ false → P (refused b m (door (names b) m))) → P (step b m)
+unfolding step
+by-door P b m = choose P (opens (names b) m) (passed (names b) b m) (refused b m (door (names b) m))
 
 -- the panel at a place after a step: its turn where the door is passed and it is addressed, else the panel as it was
 pub at-step : (b : DisplayBox) (m : Message) (i : ℕ) → i < length (b .panels) → panelAt i (step b m .box) ≡ cond (opens (names b) m && addressed (names b) m i) (turn m (panelAt i b) .panel) (panelAt i b)

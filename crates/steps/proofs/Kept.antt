@@ -18,14 +18,9 @@ use Rattle.panels.specs.declared.Panel.{Panel}
 use Rattle.panels.specs.declared.DisplayBox.{DisplayBox}
 use Rattle.steps.specs.Messages.{Message, rs232c, kjw, tcp, udp, Name, nobody, nameOf, names, isW}
 use Rattle.steps.specs.Addressing.{addressed}
-use Rattle.steps.specs.Step.{door, turn, Outcome, panelAt, withPanels, passed, refused, step}
+use Rattle.steps.specs.Step.{turn, Outcome, panelAt, withPanels, step}
 use Rattle.steps.proofs.Sound.{sound}
-use Rattle.steps.proofs.Door.{opens, shut, speaks, its-family, at-step}
-
--- what holds of a message that passed the door and of one that was refused there holds of every step
-by-door : (P : Outcome → Type 0) (b : DisplayBox) (m : Message) → (opens (names b) m ≡ true → P (passed (names b) b m)) → (opens (names b) m ≡ false → P (refused b m (door (names b) m))) → P (step b m)
-unfolding step
-by-door P b m = choose P (opens (names b) m) (passed (names b) b m) (refused b m (door (names b) m))
+use Rattle.steps.proofs.Door.{opens, shut, speaks, nobody-speaks, its-family, by-door, at-step}
 
 -- ---- the number of panels and of places
 
@@ -132,12 +127,6 @@ name-behind zero ps i h = refl
 name-behind (suc n) [] i h = refl
 name-behind (suc n) (p ∷ ps) zero h = absurd (omega arith)
 name-behind (suc n) (p ∷ ps) (suc i) h = name-behind n ps i (omega arith)
-
-nobody-speaks : (m : Message) → speaks m nobody ≡ false
-nobody-speaks (rs232c l m area) = refl
-nobody-speaks (kjw l m area) = refl
-nobody-speaks (tcp l m area) = refl
-nobody-speaks (udp m) = refl
 
 -- a place that takes a turn holds a panel in use, of the message's family
 takes-turn : (b : DisplayBox) (m : Message) (i : ℕ) → i < length (b .panels) → (opens (names b) m && addressed (names b) m i) ≡ true → (i < b .count) × (speaks m (nameOf (panelAt i b)) ≡ true)

@@ -1,4 +1,6 @@
+pub mod Alone
 pub mod Door
 mod Finding
 pub mod Kept
+pub mod Refused
 pub mod Sound
