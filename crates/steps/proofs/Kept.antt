@@ -128,6 +128,13 @@ name-behind (suc n) [] i h = refl
 name-behind (suc n) (p ∷ ps) zero h = absurd (omega arith)
 name-behind (suc n) (p ∷ ps) (suc i) h = name-behind n ps i (omega arith)
 
+-- the name at a place in use is that of the panel there, and behind the panels in use there is none
+pub in-use-name : (b : DisplayBox) (i : ℕ) → valid b ≡ true → i < b .count → i < length (b .panels) → getD (names b) i nobody ≡ nameOf (panelAt i b)
+in-use-name b i v k h = ap (λ (ns : List Name). getD ns i nobody) (valid-names b v) ∙ name-here (b .count) (b .panels) i k h
+
+pub unused-name : (b : DisplayBox) (i : ℕ) → valid b ≡ true → b .count ≤ i → getD (names b) i nobody ≡ nobody
+unused-name b i v k = ap (λ (ns : List Name). getD ns i nobody) (valid-names b v) ∙ name-behind (b .count) (b .panels) i k
+
 -- a place that takes a turn holds a panel in use, of the message's family
 takes-turn : (b : DisplayBox) (m : Message) (i : ℕ) → i < length (b .panels) → (opens (names b) m && addressed (names b) m i) ≡ true → (i < b .count) × (speaks m (nameOf (panelAt i b)) ≡ true)
 takes-turn b m i h e = judge (valid b) refl
@@ -138,16 +145,10 @@ takes-turn b m i h e = judge (valid b) refl
     spoken : speaks m (getD (names b) i nobody) ≡ true
     spoken = its-family (names b) m i o (and-second (opens (names b) m) (addressed (names b) m i) e)
 
-    listed : valid b ≡ true → getD (names b) i nobody ≡ getD (map nameOf (inUse b)) i nobody
-    listed v = ap (λ (ns : List Name). getD ns i nobody) (valid-names b v)
-
     place : (t : Bool) → ltb i (b .count) ≡ t → valid b ≡ true → (i < b .count) × (speaks m (nameOf (panelAt i b)) ≡ true)
-    place true t v =
-        let k = ltb-true i (b .count) t in
-        (k, sym (ap (speaks m) (listed v ∙ name-here (b .count) (b .panels) i k h)) ∙ spoken)
+    place true t v = let k = ltb-true i (b .count) t in (k, sym (ap (speaks m) (in-use-name b i v k h)) ∙ spoken)
     place false t v =
-        let behind = listed v ∙ name-behind (b .count) (b .panels) i (ltb-false i (b .count) t) in
-        absurd (false-true (sym (nobody-speaks m) ∙ sym (ap (speaks m) behind) ∙ spoken))
+        absurd (false-true (sym (nobody-speaks m) ∙ sym (ap (speaks m) (unused-name b i v (ltb-false i (b .count) t))) ∙ spoken))
 
     judge : (v : Bool) → valid b ≡ v → (i < b .count) × (speaks m (nameOf (panelAt i b)) ≡ true)
     judge true v = place (ltb i (b .count)) refl v

@@ -1,3 +1,4 @@
+pub mod Addressed
 pub mod Alone
 pub mod Door
 mod Finding
