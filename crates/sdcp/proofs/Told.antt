@@ -1,24 +1,38 @@
--- Every answer but 0 leaves the record, and no reply carries F010h: by the cases of what a packet asks.
+-- Every answer but 0 leaves the record, a valid record stays valid, and no reply carries F010h: by the cases of what a packet asks.
 use mathlib.Core.Path.{_≡_, refl, ap}
-use mathlib.Core.Bool.{Bool, true, false, cond}
+use mathlib.Core.Bool.{Bool, true, false, not, cond}
 use mathlib.Core.List.{List, [], _∷_}
 use Prim.Native.Nat.{ℕ}
 use native.Mathlib.Omega.{arith}
 use lib.Dec.{ltb}
 use lib.ListN.{length, getD}
+use Rattle.laws.proofs.Conditions.{choose}
 use Rattle.terms.specs.Answers.{numberOf}
-use Rattle.terms.specs.declared.Answer.the-variants.{AreaTooSmall}
+use Rattle.terms.specs.declared.Answer.the-variants.{AreaTooSmall, WrongLength, NotForUs}
+use Rattle.panels.specs.Valid.{okW}
 use Rattle.panels.specs.declared.WRecord.{WRecord}
+use Rattle.vmc.specs.Reading.{readData}
 use Rattle.vmc.specs.Texts.{textOf}
+use Rattle.vmc.specs.declared.Words.{Words}
+use Rattle.vmc.specs.declared.Words.the-variants.{Understood as UnderstoodWords, Strange as StrangeWords}
+use Rattle.vmc.proofs.Kept.{carried-valid}
 use Rattle.vmc.proofs.Plain.{low-text}
-use Rattle.sdcp.specs.Packets.{heardOf}
-use Rattle.sdcp.specs.Replies.{packetOf, bytesOf, Turn, turned, told}
+use Rattle.sdcp.specs.Packets.{isOurs, isBroken, dataOf, inWords, heardOf}
+use Rattle.sdcp.specs.Replies.{packetOf, bytesOf, Turn, answerOf, turned, told}
 use Rattle.sdcp.specs.declared.Heard.{Heard}
 use Rattle.sdcp.specs.declared.Heard.the-variants.{Refused, Broken, Strange, Understood}
 use Rattle.sdcp.specs.declared.Reply.{Reply}
 use Rattle.sdcp.specs.declared.Reply.the-variants.{Silent, Ng, Ok}
 
-turn-leaves : (h : Heard) (w : WRecord) → (numberOf (turned h w .answer) ≡ 0 → ⊥) → turned h w .after ≡ w
+-- the answer is that of what was heard, whatever the panel
+pub turned-answer : (h : Heard) (w : WRecord) → turned h w .answer ≡ answerOf h
+unfolding turned
+turned-answer (Refused a) w = refl
+turned-answer Broken w = refl
+turned-answer Strange w = refl
+turned-answer (Understood o) w = refl
+
+pub turn-leaves : (h : Heard) (w : WRecord) → (numberOf (turned h w .answer) ≡ 0 → ⊥) → turned h w .after ≡ w
 unfolding turned
 turn-leaves (Refused a) w n = refl
 turn-leaves Broken w n = refl
@@ -36,6 +50,37 @@ refusal-leaves room m w n = go (ltb room 512) n
     go : (b : Bool) → (numberOf (cond b small (turned (heardOf m) w) .answer) ≡ 0 → ⊥) → cond b small (turned (heardOf m) w) .after ≡ w
     go true n = refl
     go false n = turn-leaves (heardOf m) w n
+
+-- ---- a valid record stays valid
+
+-- what was heard leaves or makes a valid record
+abbrev Keeps : WRecord → Heard → Type 0
+Keeps w h = okW w ≡ true → okW (turned h w .after) ≡ true
+
+words-keep : (d : List ℕ) (w : WRecord) (x : Words) → readData d ≡ x → Keeps w (inWords x)
+unfolding turned
+words-keep d w (UnderstoodWords o) e v = carried-valid d o w e v
+words-keep d w StrangeWords e v = v
+
+pub turned-valid : (m : List ℕ) (w : WRecord) → okW w ≡ true → okW (turned (heardOf m) w .after) ≡ true
+unfolding heardOf turned
+turned-valid m w =
+    choose (Keeps w) (ltb (length m) 13) (Refused WrongLength) _ (λ e v. v) (λ e.
+    choose (Keeps w) (not (isOurs m)) (Refused NotForUs) _ (λ f v. v) (λ f.
+    choose (Keeps w) (isBroken m) Broken _ (λ g v. v) (λ g.
+    words-keep (dataOf m) w (readData (dataOf m)) refl)))
+
+-- whatever the packet and the area
+pub stays-valid : (room : ℕ) (m : List ℕ) (w : WRecord) → okW w ≡ true → okW (told room m w .after) ≡ true
+unfolding told
+stays-valid room m w v = go (ltb room 512)
+  where
+    small : Turn
+    small = record { after = w; answer = AreaTooSmall; reply = Silent }
+
+    go : (b : Bool) → okW (cond b small (turned (heardOf m) w) .after) ≡ true
+    go true = v
+    go false = turned-valid m w v
 
 -- ---- "Error F010h is never sent."
 
