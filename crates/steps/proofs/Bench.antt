@@ -1,5 +1,5 @@
 -- Document 01, "What was tried at the bench": each row's messages go through `configured` and `step`, and what comes back is computed.
-use Prim.Native.Nat.{ℕ, _-_}
+use Prim.Native.Nat.{ℕ}
 use Prim.Native.String.{String}
 use mathlib.Core.Path.{_≡_, refl}
 use mathlib.Core.List.{List, [], _∷_, _++_, map}
@@ -99,11 +99,11 @@ abbrev onSerial : List ℕ → Message
 onSerial m = rs232c 1 m (lent 512)
 
 -- `03 0B 53 4F 4E 59`, group, unit, request, `B0 00`, the data's length, and the data
-abbrev packet : ℕ → ℕ → ℕ → ℕ → ℕ → List ℕ → List ℕ
+abbrev pub packet : ℕ → ℕ → ℕ → ℕ → ℕ → List ℕ → List ℕ
 packet group unit request high low body = 0x03 ∷ 0x0b ∷ 0x53 ∷ 0x4f ∷ 0x4e ∷ 0x59 ∷ group ∷ unit ∷ request ∷ 0xb0 ∷ 0x00 ∷ high ∷ low ∷ body
 
 -- on link 1, to the link's own panel
-abbrev onTcp : ℕ → String → Message
+abbrev pub onTcp : ℕ → String → Message
 onTcp size text = tcp 1 (packet 0x00 0x00 0x00 0x00 size (ascii text)) (lent 512)
 
 abbrev line : String → List ℕ
@@ -116,7 +116,7 @@ onKjw s = kjw 3 (line s) (lent 512)
 abbrev ok : List ℕ
 ok = 0x03 ∷ 0x0b ∷ 0x53 ∷ 0x4f ∷ 0x4e ∷ 0x59 ∷ 0x00 ∷ 0x00 ∷ 0x01 ∷ 0xb0 ∷ 0x00 ∷ 0x00 ∷ 0x00 ∷ []
 
-abbrev volume40 : Message
+abbrev pub volume40 : Message
 volume40 = onTcp 0x11 "STATset VOLUME 40"
 
 abbrev powerOn : Message
