@@ -177,6 +177,8 @@ more =
     -- data length 499 in 512 bytes passes the envelope; 500 in 513: 5
     says (tcp 1 (packet 0x00 0x00 0x00 0x01 0xf3 (replicate 499 0x41)) (lent 512)) 6 ok ∷
     says (tcp 1 (packet 0x00 0x00 0x00 0x01 0xf4 (replicate 500 0x41)) (lent 512)) 5 (packet 0x00 0x00 0x00 0x00 0x02 (0xf0 ∷ 0x50 ∷ [])) ∷
+    -- 40h with a data byte too few: 6, and nothing is applied
+    leaves (onSerial (0x02 ∷ 0x06 ∷ 0x01 ∷ 0x41 ∷ 0x40 ∷ 0x21 ∷ 0xff ∷ 0x0f ∷ 0x49 ∷ [])) 6 (0x02 ∷ 0x03 ∷ 0x41 ∷ 0x01 ∷ 0x05 ∷ 0xb6 ∷ []) balance (pos 2048 ∷ pos 2048 ∷ pos 2048 ∷ pos 0 ∷ pos 0 ∷ pos 0 ∷ []) ∷
     -- port 0000: 6
     says (onKjw "*SCINPT0000000100000000") 6 (line "*SAINPTFFFFFFFFFFFFFFFF") ∷
     -- by UDP with group 1 and unit FFh: the W panels of group 1 and no others, and no reply

@@ -1,7 +1,7 @@
-pub mod Bench
-pub mod Turns
 pub mod Asked
-pub mod AskedSerial
 pub mod AskedFrames
-pub mod Stays
+pub mod AskedSerial
+pub mod Bench
 pub mod Standins
+pub mod Stays
+pub mod Turns

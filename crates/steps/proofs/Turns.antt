@@ -143,6 +143,10 @@ done-passes b m = go (door (names b) m)
 pub done-reaches : (b : DisplayBox) (m : Message) (i : ℕ) → step b m .answer ≡ Done → addressed (names b) m i ≡ true → Reaches b m i
 done-reaches b m i d a = record { passes = done-passes b m d; meant = a }
 
+-- while the names are the same, a message comes to the same panels
+pub again : {b c : DisplayBox} {m : Message} {i : ℕ} → names c ≡ names b → Reaches b m i → Reaches c m i
+again {b} {c} {m} {i} e r = record { passes = ap (λ (ns : List Name). door ns m) e ∙ r .passes; meant = ap (λ (ns : List Name). addressed ns m i) e ∙ r .meant }
+
 -- by UDP all panels that are called have the same answer
 turned-answer : (h : Heard) (w : WRecord) → packets.answerOf h ≡ packets.turned h w .answer
 unfolding packets.turned
