@@ -5,4 +5,5 @@ pub mod Kept
 mod Lengths
 pub mod Notices
 mod Orders
+pub mod Stays
 pub mod Told

@@ -1,8 +1,15 @@
 pub mod Addressed
 pub mod Alone
+pub mod Asked
+pub mod AskedFrames
+pub mod AskedSerial
+pub mod Bench
 pub mod Door
 pub mod Finding
 pub mod Kept
 pub mod Refused
 pub mod Sound
+pub mod Standins
+pub mod Stays
+pub mod Turns
 pub mod Witness

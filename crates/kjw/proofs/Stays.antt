@@ -1,0 +1,82 @@
+-- What was not ordered stays: an order writes the numbers of its own state alone, and a state's value reads its own numbers alone.
+use mathlib.Core.Path.{_≡_, refl, ap}
+use mathlib.Core.Bool.{Bool, false}
+use mathlib.Core.List.{List, [], _∷_}
+use Prim.Native.Nat.{ℕ}
+use lib.Dec.{eqb, ltb}
+use lib.ListN.{getD}
+use lib.Seq.{getD-set-other}
+use borrow.Author.Tests.{eqb-false}
+use Rattle.laws.proofs.Conditions.{choose}
+use Rattle.panels.specs.declared.KRecord.{KRecord}
+use Rattle.numbers.specs.Decimals.{inDigits}
+use Rattle.kjw.specs.Frames.{switchWord, sceneWord, inputWord, valueOf}
+use Rattle.kjw.specs.Rules.{heardOf, flipped, carried, turnOf, Outcome, turned, met}
+use Rattle.kjw.specs.declared.State.{State}
+use Rattle.kjw.specs.declared.State.the-variants.{Power, AudioMute, PictureMute, Volume, Input, Scene}
+use Rattle.kjw.specs.declared.Order.{Order}
+use Rattle.kjw.specs.declared.Order.the-variants.{SetPower, TogglePower, SetAudioMute, SetPictureMute, TogglePictureMute, SetVolume, SetInput, SetScene, Ask}
+use Rattle.kjw.specs.declared.Heard.{Heard}
+use Rattle.kjw.specs.declared.Heard.the-variants.{Refused, Strange, Understood}
+
+-- the states in a row, and the one that an order sets; an enquiry sets none of the six
+abbrev pub placeOf : State → ℕ
+placeOf Power = 0
+placeOf AudioMute = 1
+placeOf PictureMute = 2
+placeOf Volume = 3
+placeOf Input = 4
+placeOf Scene = 5
+
+abbrev pub placeSet : Order → ℕ
+placeSet (SetPower v) = 0
+placeSet TogglePower = 0
+placeSet (SetAudioMute v) = 1
+placeSet (SetPictureMute v) = 2
+placeSet TogglePictureMute = 2
+placeSet (SetVolume v) = 3
+placeSet (SetInput kind port) = 4
+placeSet (SetScene v) = 5
+placeSet (Ask s) = 6
+
+-- what was heard is an order that sets the state
+abbrev pub setsState : Heard → State → Bool
+setsState (Refused a) s = false
+setsState Strange s = false
+setsState (Understood o) s = eqb (placeOf s) (placeSet o)
+
+-- the numbers of each state
+abbrev rows : KRecord → List (List ℕ)
+rows k = (k .power ∷ []) ∷ (k .amut ∷ []) ∷ (k .pmut ∷ []) ∷ (k .volume ∷ []) ∷ (k .kind ∷ k .port ∷ []) ∷ (k .scene ∷ []) ∷ []
+
+row-stays : (o : Order) (k : KRecord) (j : ℕ) → eqb j (placeSet o) ≡ false → getD (rows (carried o k)) j [] ≡ getD (rows k) j []
+unfolding carried
+row-stays (SetPower v) k j n = getD-set-other (rows k) 0 j (v ∷ []) [] (eqb-false j 0 n)
+row-stays TogglePower k j n = getD-set-other (rows k) 0 j (flipped (k .power) ∷ []) [] (eqb-false j 0 n)
+row-stays (SetAudioMute v) k j n = getD-set-other (rows k) 1 j (v ∷ []) [] (eqb-false j 1 n)
+row-stays (SetPictureMute v) k j n = getD-set-other (rows k) 2 j (v ∷ []) [] (eqb-false j 2 n)
+row-stays TogglePictureMute k j n = getD-set-other (rows k) 2 j (flipped (k .pmut) ∷ []) [] (eqb-false j 2 n)
+row-stays (SetVolume v) k j n = getD-set-other (rows k) 3 j (v ∷ []) [] (eqb-false j 3 n)
+row-stays (SetInput kind port) k j n = getD-set-other (rows k) 4 j (kind ∷ port ∷ []) [] (eqb-false j 4 n)
+row-stays (SetScene v) k j n = getD-set-other (rows k) 5 j (v ∷ []) [] (eqb-false j 5 n)
+row-stays (Ask s) k j n = refl
+
+value-by-row : (s : State) (k k′ : KRecord) → getD (rows k′) (placeOf s) [] ≡ getD (rows k) (placeOf s) [] → valueOf s k′ ≡ valueOf s k
+unfolding valueOf
+value-by-row Power k k′ e = ap (λ (r : List ℕ). switchWord (getD r 0 0)) e
+value-by-row AudioMute k k′ e = ap (λ (r : List ℕ). switchWord (getD r 0 0)) e
+value-by-row PictureMute k k′ e = ap (λ (r : List ℕ). switchWord (getD r 0 0)) e
+value-by-row Volume k k′ e = ap (λ (r : List ℕ). inDigits 16 (getD r 0 0)) e
+value-by-row Input k k′ e = ap (λ (r : List ℕ). inputWord (getD r 0 0) (getD r 1 0)) e
+value-by-row Scene k k′ e = ap (λ (r : List ℕ). sceneWord (getD r 0 0)) e
+
+turn-stays : (h : Heard) (s : State) (k : KRecord) → setsState h s ≡ false → valueOf s (turnOf k h .k) ≡ valueOf s k
+unfolding turnOf
+turn-stays (Refused a) s k n = refl
+turn-stays Strange s k n = refl
+turn-stays (Understood o) s k n = value-by-row s k (carried o k) (row-stays o k (placeOf s) n)
+
+-- whatever the message and the area, the value of a state stays, but for an order that sets it
+pub stays : (room : ℕ) (m : List ℕ) (s : State) (k : KRecord) → setsState (heardOf m) s ≡ false → valueOf s (met room m k .k) ≡ valueOf s k
+unfolding met turned
+stays room m s k n = choose (λ (o : Outcome). valueOf s (o .k) ≡ valueOf s k) (ltb room 512) _ (turned m k) (λ e. refl) (λ e. turn-stays (heardOf m) s k n)

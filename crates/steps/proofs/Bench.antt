@@ -1,0 +1,207 @@
+-- Document 01, "What was tried at the bench": each row's messages go through `configured` and `step`, and what comes back is computed.
+use Prim.Native.Nat.{ℕ}
+use Prim.Native.String.{String}
+use mathlib.Core.Path.{_≡_, refl}
+use mathlib.Core.List.{List, [], _∷_, _++_, map}
+use lib.Count.{ones, onesIn}
+use lib.IntN.{ℤ, pos, negsuc}
+use lib.ListN.{length, getD, take, drop, replicate}
+use Rattle.laws.specs.Bytes.{ascii}
+use Rattle.laws.specs.Numbers.{number, inBytes}
+use Rattle.sums.specs.Sums.{sumOf}
+use Rattle.numbers.specs.Decimals.{isDigit, decimal, inDigits, numeral}
+use Rattle.terms.specs.Answers.{numberOf}
+use Rattle.panels.specs.Records.{familyW, familyK}
+use Rattle.panels.specs.Valid.{okShift, okGain, okBias, okInputs, okBalance, okW, okInput, okK, okIds, zeroIds, okPanel, share, distinct, valid}
+use Rattle.panels.specs.Configure.{askedAt, asked, configured}
+use Rattle.panels.specs.declared.Panel.{Panel}
+use Rattle.panels.specs.declared.DisplayBox.{DisplayBox}
+use Rattle.words.specs.Names.{namedBy, ledBy, chosenBy}
+use Rattle.vmc.specs.Orders as words
+use Rattle.vmc.specs.Reading.{readData, readSet, readGet, valueOrder, levelOf, isNumeral, leadsZero, shiftOrder}
+use Rattle.vmc.specs.Texts.{textOf, setWords, moveWords, valueWords, shiftWords}
+use Rattle.rs232c.specs.Frames as heard
+use Rattle.rs232c.specs.Orders as orders
+use Rattle.rs232c.specs.Replies as serial
+use Rattle.kjw.specs.Frames as letters
+use Rattle.kjw.specs.Rules as frames
+use Rattle.sdcp.specs.Packets as asks
+use Rattle.sdcp.specs.Replies as packets
+use Rattle.steps.specs.Messages.{Message, rs232c, kjw, tcp, udp, nameOf, names}
+use Rattle.steps.specs.Addressing as address
+use Rattle.steps.specs.Step.{panelAt, toNobody, door, turn, Outcome, step}
+use Rattle.steps.specs.Run.{run}
+
+-- W 1/1, W 1/2, K and W 2/1 at their start values, on the links 1 to 4
+abbrev pub box : DisplayBox
+box = configured (familyW ∷ 1 ∷ 1 ∷ familyW ∷ 1 ∷ 2 ∷ familyK ∷ 0 ∷ 0 ∷ familyW ∷ 2 ∷ 1 ∷ []) .made
+
+-- an area of a filler that no reply has a byte of
+abbrev pub lent : ℕ → List ℕ
+lent n = replicate n 0xee
+
+abbrev pub areaOf : Message → List ℕ
+areaOf (rs232c l m area) = area
+areaOf (kjw l m area) = area
+areaOf (tcp l m area) = area
+areaOf (udp m) = []
+
+-- a row: the messages before, the message, and what was seen: its answer, the reply's bytes and what the row looks at afterwards
+pub record Row : Type 0 where
+  pub before : List Message
+  pub message : Message
+  pub answer : ℕ
+  pub reply : List ℕ
+  pub looks : DisplayBox → List ℤ
+  pub values : List ℤ
+
+pub record Seen : Type 0 where
+  pub answer : ℕ
+  pub len : ℕ
+  pub area : List ℕ
+  pub values : List ℤ
+
+abbrev sight : (DisplayBox → List ℤ) → Outcome → Seen
+sight looks o = record { answer = numberOf (o .answer); len = o .back .len; area = o .back .area; values = looks (o .box) }
+
+-- what the step gives
+abbrev pub seen : Row → Seen
+seen r = sight (r .looks) (step (run box (r .before)) (r .message))
+
+-- what the row says: "A reply fills the front of the area; bytes after it keep what they held"
+abbrev pub expected : Row → Seen
+expected r = record { answer = r .answer; len = length (r .reply); area = r .reply ++ drop (length (r .reply)) (areaOf (r .message)); values = r .values }
+
+-- ---- what a row looks at, place by place
+
+abbrev nothing : DisplayBox → List ℤ
+nothing b = []
+
+abbrev volume : Panel → ℤ
+volume p = pos (getD (p .w .settings) 2 0)
+
+-- the four volumes, that of the K panel's unused W settings too
+abbrev volumes : DisplayBox → List ℤ
+volumes b = map volume (take 4 (b .panels))
+
+abbrev shiftH : DisplayBox → List ℤ
+shiftH b = getD (panelAt 0 b .w .shifts) 0 (pos 0) ∷ []
+
+abbrev balance : DisplayBox → List ℤ
+balance b = map pos (panelAt 0 b .w .balance .gains) ++ panelAt 0 b .w .balance .biases
+
+abbrev power : DisplayBox → List ℤ
+power b = pos (panelAt 2 b .k .power) ∷ []
+
+-- ---- the messages
+
+abbrev onSerial : List ℕ → Message
+onSerial m = rs232c 1 m (lent 512)
+
+-- `03 0B 53 4F 4E 59`, group, unit, request, `B0 00`, the data's length, and the data
+abbrev pub packet : ℕ → ℕ → ℕ → ℕ → ℕ → List ℕ → List ℕ
+packet group unit request high low body = 0x03 ∷ 0x0b ∷ 0x53 ∷ 0x4f ∷ 0x4e ∷ 0x59 ∷ group ∷ unit ∷ request ∷ 0xb0 ∷ 0x00 ∷ high ∷ low ∷ body
+
+-- on link 1, to the link's own panel
+abbrev pub onTcp : ℕ → String → Message
+onTcp size text = tcp 1 (packet 0x00 0x00 0x00 0x00 size (ascii text)) (lent 512)
+
+abbrev line : String → List ℕ
+line s = ascii s ++ (0x0a ∷ [])
+
+abbrev onKjw : String → Message
+onKjw s = kjw 3 (line s) (lent 512)
+
+-- OK without data
+abbrev ok : List ℕ
+ok = 0x03 ∷ 0x0b ∷ 0x53 ∷ 0x4f ∷ 0x4e ∷ 0x59 ∷ 0x00 ∷ 0x00 ∷ 0x01 ∷ 0xb0 ∷ 0x00 ∷ 0x00 ∷ 0x00 ∷ []
+
+abbrev pub volume40 : Message
+volume40 = onTcp 0x11 "STATset VOLUME 40"
+
+abbrev powerOn : Message
+powerOn = onKjw "*SCPOWR0000000000000001"
+
+-- a message at the start, of which the answer and the reply alone are looked at
+abbrev says : Message → ℕ → List ℕ → Row
+says m answer reply = record { before = []; message = m; answer = answer; reply = reply; looks = nothing; values = [] }
+
+-- a message at the start, and what the box then holds
+abbrev leaves : Message → ℕ → List ℕ → (DisplayBox → List ℤ) → List ℤ → Row
+leaves m answer reply looks values = record { before = []; message = m; answer = answer; reply = reply; looks = looks; values = values }
+
+-- the rows marked *
+abbrev pub bench : List Row
+bench =
+    -- `02 03 01 41 6E 4D` at start: `02 04 41 01 7E 01 3B`
+    says (onSerial (0x02 ∷ 0x03 ∷ 0x01 ∷ 0x41 ∷ 0x6e ∷ 0x4d ∷ [])) 0 (0x02 ∷ 0x04 ∷ 0x41 ∷ 0x01 ∷ 0x7e ∷ 0x01 ∷ 0x3b ∷ []) ∷
+    -- `02 08 01 41 40 21 FF 0F 00 04 43`: R gain 4095, B bias -1024, `02 03 41 01 04 B7`
+    leaves (onSerial (0x02 ∷ 0x08 ∷ 0x01 ∷ 0x41 ∷ 0x40 ∷ 0x21 ∷ 0xff ∷ 0x0f ∷ 0x00 ∷ 0x04 ∷ 0x43 ∷ [])) 0 (0x02 ∷ 0x03 ∷ 0x41 ∷ 0x01 ∷ 0x04 ∷ 0xb7 ∷ []) balance (pos 4095 ∷ pos 2048 ∷ pos 2048 ∷ pos 0 ∷ pos 0 ∷ negsuc 1023 ∷ []) ∷
+    -- the first with last byte 4E: 5, `02 03 41 01 05 B6`
+    says (onSerial (0x02 ∷ 0x03 ∷ 0x01 ∷ 0x41 ∷ 0x6e ∷ 0x4e ∷ [])) 5 (0x02 ∷ 0x03 ∷ 0x41 ∷ 0x01 ∷ 0x05 ∷ 0xb6 ∷ []) ∷
+    -- `STATset VOLUME 40`: `03 0B 53 4F 4E 59 00 00 01 B0 00 00 00`
+    leaves volume40 0 ok volumes (pos 40 ∷ pos 30 ∷ pos 30 ∷ pos 30 ∷ []) ∷
+    -- then `STATget VOLUME`: length 9, `VOLUME 40`
+    record { before = volume40 ∷ []; message = onTcp 0x0e "STATget VOLUME"; answer = 0; reply = packet 0x00 0x00 0x01 0x00 0x09 (ascii "VOLUME 40"); looks = volumes; values = pos 40 ∷ pos 30 ∷ pos 30 ∷ pos 30 ∷ [] } ∷
+    -- VOLUME 100 is set; 101: 6, OK without data
+    leaves (onTcp 0x12 "STATset VOLUME 100") 0 ok volumes (pos 100 ∷ pos 30 ∷ pos 30 ∷ pos 30 ∷ []) ∷
+    leaves (onTcp 0x12 "STATset VOLUME 101") 6 ok volumes (pos 30 ∷ pos 30 ∷ pos 30 ∷ pos 30 ∷ []) ∷
+    -- SHIFTH -30 is set; -31 and -0: 6
+    leaves (onTcp 0x12 "STATset SHIFTH -30") 0 ok shiftH (negsuc 29 ∷ []) ∷
+    leaves (onTcp 0x12 "STATset SHIFTH -31") 6 ok shiftH (pos 0 ∷ []) ∷
+    leaves (onTcp 0x11 "STATset SHIFTH -0") 6 ok shiftH (pos 0 ∷ []) ∷
+    -- request 01h: 5, ending `00 B0 00 00 02 F0 50`
+    leaves (tcp 1 (packet 0x00 0x00 0x01 0x00 0x11 (ascii "STATset VOLUME 40")) (lent 512)) 5 (0x03 ∷ 0x0b ∷ 0x53 ∷ 0x4f ∷ 0x4e ∷ 0x59 ∷ 0x00 ∷ 0x00 ∷ 0x00 ∷ 0xb0 ∷ 0x00 ∷ 0x00 ∷ 0x02 ∷ 0xf0 ∷ 0x50 ∷ []) volumes (pos 30 ∷ pos 30 ∷ pos 30 ∷ pos 30 ∷ []) ∷
+    -- `*SCPOWR0000000000000001` and 0Ah from standby: answer and notice; again: answer alone
+    leaves powerOn 0 (line "*SAPOWR0000000000000000" ++ line "*SNPOWR0000000000000001") power (pos 1 ∷ []) ∷
+    record { before = powerOn ∷ []; message = powerOn; answer = 0; reply = line "*SAPOWR0000000000000000"; looks = power; values = pos 1 ∷ [] } ∷
+    []
+
+-- every row of the bench is what the step gives: its answer, its reply, the bytes behind it and what it left in the record
+pub tried : map seen bench ≡ map expected bench
+unfolding configured asked askedAt valid okPanel okIds zeroIds okW okK okInput okInputs okBalance okGain okBias okShift share distinct nameOf names address.hasIds address.isPair address.numberOf address.byTcp address.target address.isCalled address.addressed toNobody door turn step heard.isForeign heard.isBroken sumOf heard.levelsCommand heard.commandOf heard.heardOf ones onesIn orders.decode orders.balancedBy orders.carried serial.frameOf serial.bytesOf serial.replyTo serial.turned serial.told letters.frameOf letters.lettersOf letters.nameOf letters.switchWord letters.inputWord letters.valueOf frames.switchOf frames.isInput frames.upTo frames.inputOrder frames.controlOf frames.isOurs frames.heardOf frames.carried frames.noticed frames.replyOf frames.turnOf frames.bytesOf frames.turned frames.met asks.isOurs asks.isBroken asks.heardOf number inBytes packets.packetOf packets.bytesOf packets.turned packets.told isDigit decimal inDigits numeral namedBy ledBy chosenBy words.carried words.toldOf readData readSet readGet valueOrder levelOf isNumeral leadsZero shiftOrder textOf setWords moveWords valueWords shiftWords
+tried = refl
+
+-- to every W panel of a group: `03 0B 53 4F 4E 59`, group, FFh
+abbrev toGroup : ℕ → Message
+toGroup group = udp (packet group 0xff 0x00 0x00 0x11 (ascii "STATset VOLUME 40"))
+
+abbrev remoteAsked : ℕ → ℕ → Message
+remoteAsked link room = rs232c link (0x02 ∷ 0x03 ∷ 0x01 ∷ 0x41 ∷ 0x6e ∷ 0x4d ∷ []) (lent room)
+
+-- rows that are not marked *, and whom a message reaches
+abbrev pub more : List Row
+more =
+    -- community `sony`: 4
+    says (tcp 1 (0x03 ∷ 0x0b ∷ 0x73 ∷ 0x6f ∷ 0x6e ∷ 0x79 ∷ 0x00 ∷ 0x00 ∷ 0x00 ∷ 0xb0 ∷ 0x00 ∷ 0x00 ∷ 0x11 ∷ ascii "STATset VOLUME 40") (lent 512)) 4 [] ∷
+    -- data length 499 in 512 bytes passes the envelope; 500 in 513: 5
+    says (tcp 1 (packet 0x00 0x00 0x00 0x01 0xf3 (replicate 499 0x41)) (lent 512)) 6 ok ∷
+    says (tcp 1 (packet 0x00 0x00 0x00 0x01 0xf4 (replicate 500 0x41)) (lent 512)) 5 (packet 0x00 0x00 0x00 0x00 0x02 (0xf0 ∷ 0x50 ∷ [])) ∷
+    -- 40h with a data byte too few: 6, and nothing is applied
+    leaves (onSerial (0x02 ∷ 0x06 ∷ 0x01 ∷ 0x41 ∷ 0x40 ∷ 0x21 ∷ 0xff ∷ 0x0f ∷ 0x49 ∷ [])) 6 (0x02 ∷ 0x03 ∷ 0x41 ∷ 0x01 ∷ 0x05 ∷ 0xb6 ∷ []) balance (pos 2048 ∷ pos 2048 ∷ pos 2048 ∷ pos 0 ∷ pos 0 ∷ pos 0 ∷ []) ∷
+    -- port 0000: 6
+    says (onKjw "*SCINPT0000000100000000") 6 (line "*SAINPTFFFFFFFFFFFFFFFF") ∷
+    -- by UDP with group 1 and unit FFh: the W panels of group 1 and no others, and no reply
+    leaves (toGroup 1) 0 [] volumes (pos 40 ∷ pos 40 ∷ pos 30 ∷ pos 30 ∷ []) ∷
+    -- our Tuesday night: unit FFh with group 2 leaves the panels of group 1 as they were
+    leaves (toGroup 2) 0 [] volumes (pos 30 ∷ pos 30 ∷ pos 30 ∷ pos 40 ∷ []) ∷
+    -- FFh/FFh is every W panel; a group that no W panel has: 4
+    leaves (toGroup 0xff) 0 [] volumes (pos 40 ∷ pos 40 ∷ pos 30 ∷ pos 40 ∷ []) ∷
+    leaves (toGroup 3) 4 [] volumes (pos 30 ∷ pos 30 ∷ pos 30 ∷ pos 30 ∷ []) ∷
+    -- by TCP on link 4 to the pair 1/2: that panel acts, and the reply is in the link's area
+    leaves (tcp 4 (packet 0x01 0x02 0x00 0x00 0x11 (ascii "STATset VOLUME 40")) (lent 600)) 0 (packet 0x01 0x02 0x01 0x00 0x00 []) volumes (pos 30 ∷ pos 40 ∷ pos 30 ∷ pos 30 ∷ []) ∷
+    -- the pair 2/2, which no panel has: 4
+    leaves (tcp 4 (packet 0x02 0x02 0x00 0x00 0x11 (ascii "STATset VOLUME 40")) (lent 512)) 4 [] volumes (pos 30 ∷ pos 30 ∷ pos 30 ∷ pos 30 ∷ []) ∷
+    -- no panel with that link number, or of the other family: 2
+    says (remoteAsked 0 512) 2 [] ∷
+    says (remoteAsked 9 512) 2 [] ∷
+    says (remoteAsked 18446744073709551615 512) 2 [] ∷
+    says (remoteAsked 3 512) 2 [] ∷
+    -- an area of 511 bytes: 1, before a link that is wrong
+    says (remoteAsked 9 511) 1 [] ∷
+    []
+
+-- and so is every one of these
+pub tried-more : map seen more ≡ map expected more
+unfolding configured asked askedAt valid okPanel okIds zeroIds okW okK okInput okInputs okBalance okGain okBias okShift share distinct nameOf names address.hasIds address.isPair address.numberOf address.byTcp address.target address.isCalled address.addressed toNobody door turn step heard.isForeign heard.isBroken sumOf heard.levelsCommand heard.commandOf heard.heardOf ones onesIn orders.decode orders.balancedBy orders.carried serial.frameOf serial.bytesOf serial.replyTo serial.turned serial.told letters.frameOf letters.lettersOf letters.nameOf letters.switchWord letters.inputWord letters.valueOf frames.switchOf frames.isInput frames.upTo frames.inputOrder frames.controlOf frames.isOurs frames.heardOf frames.carried frames.noticed frames.replyOf frames.turnOf frames.bytesOf frames.turned frames.met asks.isOurs asks.isBroken asks.heardOf number inBytes packets.packetOf packets.bytesOf packets.turned packets.told isDigit decimal inDigits numeral namedBy ledBy chosenBy words.carried words.toldOf readData readSet readGet valueOrder levelOf isNumeral leadsZero shiftOrder textOf setWords moveWords valueWords shiftWords
+tried-more = refl

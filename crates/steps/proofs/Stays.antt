@@ -1,0 +1,167 @@
+-- What was not ordered stays: every panel takes its turn or is left, and a turn changes only what its message sets.
+use Prim.Native.Nat.{ℕ}
+use mathlib.Core.Path.{_≡_, refl, sym, _∙_}
+use mathlib.Core.Bool.{Bool, true, false, not, _||_}
+use mathlib.Core.List.{List, [], _∷_}
+use lib.Dec.{eqb, ltb}
+use lib.ListN.{length, getD}
+use borrow.Author.Tests.{eqb-false, not-true}
+use Rattle.laws.specs.Lists.{every}
+use Rattle.laws.proofs.Conditions.{choose, false-true, and-first, and-second}
+use Rattle.panels.specs.declared.Panel.{Panel}
+use Rattle.panels.specs.declared.WRecord.{WRecord}
+use Rattle.panels.specs.declared.DisplayBox.{DisplayBox}
+use Rattle.vmc.specs.Orders.{toldOf}
+use Rattle.vmc.specs.declared.Order.the-variants.{Get}
+use Rattle.vmc.proofs.Asked as words
+use Rattle.rs232c.proofs.Back as serial
+use Rattle.rs232c.specs.Replies as replies
+use Rattle.kjw.specs.Frames.{valueOf}
+use Rattle.kjw.specs.Rules as frames
+use Rattle.kjw.specs.declared.State.{State}
+use Rattle.kjw.proofs.Stays as states
+use Rattle.sdcp.specs.Packets.{heardOf}
+use Rattle.sdcp.specs.Replies as packets
+use Rattle.sdcp.specs.declared.Heard.{Heard}
+use Rattle.sdcp.specs.declared.Heard.the-variants.{Refused, Broken, Strange, Understood}
+use Rattle.steps.specs.Messages.{Message, rs232c, kjw, tcp, udp}
+use Rattle.steps.specs.Step.{turn, panelAt, step}
+use Rattle.steps.specs.Run.{run}
+use Rattle.steps.proofs.Turns.{either}
+
+-- what was heard is an order that sets name j
+abbrev pub ordersIt : Heard → ℕ → Bool
+ordersIt (Refused a) j = false
+ordersIt Broken j = false
+ordersIt Strange j = false
+ordersIt (Understood o) j = words.touches o j
+
+-- a message that sets name j at the panels that it is addressed to: an SDCP packet with such an order
+abbrev pub sets : Message → ℕ → Bool
+sets (rs232c l m area) j = false
+sets (kjw l m area) j = false
+sets (tcp l m area) j = ordersIt (heardOf m) j
+sets (udp m) j = ordersIt (heardOf m) j
+
+-- a message that may change a panel's connectors and preset, or its white balance: RS-232C with the codes 21h and 22h, or 40h
+abbrev pub bears : ℕ → Message → Bool
+bears code (rs232c l m area) = eqb (getD m 4 0) code
+bears code (kjw l m area) = false
+bears code (tcp l m area) = false
+bears code (udp m) = false
+
+-- a message that sets a KJW state at the panel of its link
+abbrev pub setsState : Message → State → Bool
+setsState (rs232c l m area) s = false
+setsState (kjw l m area) s = states.setsState (frames.heardOf m) s
+setsState (tcp l m area) s = false
+setsState (udp m) s = false
+
+-- what of a W record no packet changes, and what only an order that sets it does
+record Left (h : Heard) (w w′ : WRecord) : Type 0 where
+  told-stays : (j : ℕ) → ordersIt h j ≡ false → toldOf (Get j) w′ ≡ toldOf (Get j) w
+  inputs-stay : w′ .inputs ≡ w .inputs
+  balance-stays : w′ .balance ≡ w .balance
+
+unmoved : (h : Heard) (w : WRecord) → Left h w w
+unmoved h w = record { told-stays = λ j n. refl; inputs-stay = refl; balance-stays = refl }
+
+turned-left : (h : Heard) (w : WRecord) → Left h w (packets.turned h w .after)
+unfolding packets.turned
+turned-left (Refused a) w = unmoved (Refused a) w
+turned-left Broken w = unmoved Broken w
+turned-left Strange w = unmoved Strange w
+turned-left (Understood o) w =
+    let s = words.stays o w in
+    record { told-stays = s .told-stays; inputs-stay = s .inputs-stay; balance-stays = s .balance-stays }
+
+packet-left : (room : ℕ) (m : List ℕ) (w : WRecord) → Left (heardOf m) w (packets.told room m w .after)
+unfolding packets.told
+packet-left room m w = choose (λ (t : packets.Turn). Left (heardOf m) w (t .after)) (ltb room 512) _ (packets.turned (heardOf m) w) (λ e. unmoved (heardOf m) w) (λ e. turned-left (heardOf m) w)
+
+-- STATget reads the settings and the shifts alone
+same-told : (j : ℕ) (w w′ : WRecord) → w′ .settings ≡ w .settings → w′ .shifts ≡ w .shifts → toldOf (Get j) w′ ≡ toldOf (Get j) w
+unfolding toldOf
+same-told j w w′ e f = rw (e, f)
+
+turn-told : (m : Message) (p : Panel) (j : ℕ) → sets m j ≡ false → toldOf (Get j) (turn m p .panel .w) ≡ toldOf (Get j) (p .w)
+unfolding turn
+turn-told (rs232c l m area) p j n =
+    let s = serial.stays (length area) m (p .w) in
+    same-told j (p .w) (replies.told (length area) m (p .w) .after) (s .settings-stay) (s .shifts-stay)
+turn-told (kjw l m area) p j n = refl
+turn-told (tcp l m area) p j n = packet-left (length area) m (p .w) .told-stays j n
+turn-told (udp m) p j n = turned-left (heardOf m) (p .w) .told-stays j n
+
+-- whatever the box, the message and the place: what STATget tells of name j stays, but for an order that sets it
+pub told-stays : (b : DisplayBox) (m : Message) (i j : ℕ) → sets m j ≡ false → toldOf (Get j) (panelAt i (step b m .box) .w) ≡ toldOf (Get j) (panelAt i b .w)
+told-stays b m i j n = either (λ (p : Panel). toldOf (Get j) (p .w) ≡ toldOf (Get j) (panelAt i b .w)) b m i refl (turn-told m (panelAt i b) j n)
+
+turn-inputs : (m : Message) (p : Panel) → bears 0x21 m ≡ false → bears 0x22 m ≡ false → turn m p .panel .w .inputs ≡ p .w .inputs
+unfolding turn
+turn-inputs (rs232c l m area) p n n′ = serial.stays (length area) m (p .w) .inputs-stay (eqb-false (getD m 4 0) 0x21 n) (eqb-false (getD m 4 0) 0x22 n′)
+turn-inputs (kjw l m area) p n n′ = refl
+turn-inputs (tcp l m area) p n n′ = packet-left (length area) m (p .w) .inputs-stay
+turn-inputs (udp m) p n n′ = turned-left (heardOf m) (p .w) .inputs-stay
+
+-- the connectors and the preset stay, but for 21h and 22h
+pub inputs-stay : (b : DisplayBox) (m : Message) (i : ℕ) → bears 0x21 m ≡ false → bears 0x22 m ≡ false → panelAt i (step b m .box) .w .inputs ≡ panelAt i b .w .inputs
+inputs-stay b m i n n′ = either (λ (p : Panel). p .w .inputs ≡ panelAt i b .w .inputs) b m i refl (turn-inputs m (panelAt i b) n n′)
+
+turn-balance : (m : Message) (p : Panel) → bears 0x40 m ≡ false → turn m p .panel .w .balance ≡ p .w .balance
+unfolding turn
+turn-balance (rs232c l m area) p n = serial.stays (length area) m (p .w) .balance-stays (eqb-false (getD m 4 0) 0x40 n)
+turn-balance (kjw l m area) p n = refl
+turn-balance (tcp l m area) p n = packet-left (length area) m (p .w) .balance-stays
+turn-balance (udp m) p n = turned-left (heardOf m) (p .w) .balance-stays
+
+-- the white balance stays, but for 40h
+pub balance-stays : (b : DisplayBox) (m : Message) (i : ℕ) → bears 0x40 m ≡ false → panelAt i (step b m .box) .w .balance ≡ panelAt i b .w .balance
+balance-stays b m i n = either (λ (p : Panel). p .w .balance ≡ panelAt i b .w .balance) b m i refl (turn-balance m (panelAt i b) n)
+
+turn-value : (m : Message) (p : Panel) (s : State) → setsState m s ≡ false → valueOf s (turn m p .panel .k) ≡ valueOf s (p .k)
+unfolding turn
+turn-value (rs232c l m area) p s n = refl
+turn-value (kjw l m area) p s n = states.stays (length area) m s (p .k) n
+turn-value (tcp l m area) p s n = refl
+turn-value (udp m) p s n = refl
+
+-- the value of a KJW state stays, but for a control that sets it
+pub value-stays : (b : DisplayBox) (m : Message) (i : ℕ) (s : State) → setsState m s ≡ false → valueOf s (panelAt i (step b m .box) .k) ≡ valueOf s (panelAt i b .k)
+value-stays b m i s n = either (λ (p : Panel). valueOf s (p .k) ≡ valueOf s (panelAt i b .k)) b m i refl (turn-value m (panelAt i b) s n)
+
+-- ---- over a run
+
+-- none of the messages is one that sets
+abbrev pub none : (Message → Bool) → List Message → Bool
+none sets ms = every (λ (m : Message). not (sets m)) ms
+
+module _ {A : Type 0} (f : Panel → A) (sets : Message → Bool) (s : (b : DisplayBox) (m : Message) (i : ℕ) → sets m ≡ false → f (panelAt i (step b m .box)) ≡ f (panelAt i b)) where
+  -- what stays at each message that does not set it stays over any run of such
+  run-stays : (ms : List Message) (b : DisplayBox) (i : ℕ) → none sets ms ≡ true → f (panelAt i (run b ms)) ≡ f (panelAt i b)
+  run-stays [] b i e = refl
+  run-stays (m ∷ ms) b i e =
+      run-stays ms (step b m .box) i (and-second (not (sets m)) (none sets ms) e)
+      ∙ s b m i (not-true (sets m) (and-first (not (sets m)) (none sets ms) e))
+
+-- what STATget tells of name j
+pub told-lasts : (j : ℕ) (ms : List Message) (b : DisplayBox) (i : ℕ) → none (λ (m : Message). sets m j) ms ≡ true → toldOf (Get j) (panelAt i (run b ms) .w) ≡ toldOf (Get j) (panelAt i b .w)
+told-lasts j ms b i e = run-stays (λ (p : Panel). toldOf (Get j) (p .w)) (λ (m : Message). sets m j) (λ c m k n. told-stays c m k j n) ms b i e
+
+-- the white balance
+pub balance-lasts : (ms : List Message) (b : DisplayBox) (i : ℕ) → none (bears 0x40) ms ≡ true → panelAt i (run b ms) .w .balance ≡ panelAt i b .w .balance
+balance-lasts ms b i e = run-stays (λ (p : Panel). p .w .balance) (bears 0x40) balance-stays ms b i e
+
+-- the connectors and the preset
+pub inputs-last : (ms : List Message) (b : DisplayBox) (i : ℕ) → none (λ (m : Message). bears 0x21 m || bears 0x22 m) ms ≡ true → panelAt i (run b ms) .w .inputs ≡ panelAt i b .w .inputs
+inputs-last ms b i e =
+    run-stays (λ (p : Panel). p .w .inputs) (λ (m : Message). bears 0x21 m || bears 0x22 m)
+    (λ c m k n. inputs-stay c m k (neither (bears 0x21 m) (bears 0x22 m) n .0) (neither (bears 0x21 m) (bears 0x22 m) n .1)) ms b i e
+  where
+    neither : (x y : Bool) → (x || y) ≡ false → (x ≡ false) × (y ≡ false)
+    neither true y n = absurd (false-true (sym n))
+    neither false y n = (refl, n)
+
+-- the value of a KJW state
+pub value-lasts : (s : State) (ms : List Message) (b : DisplayBox) (i : ℕ) → none (λ (m : Message). setsState m s) ms ≡ true → valueOf s (panelAt i (run b ms) .k) ≡ valueOf s (panelAt i b .k)
+value-lasts s ms b i e = run-stays (λ (p : Panel). valueOf s (p .k)) (λ (m : Message). setsState m s) (λ c m k n. value-stays c m k s n) ms b i e
