@@ -8,7 +8,7 @@ use native.Mathlib.Omega.{arith}
 use lib.Dec.{eqb, leb, ltb}
 use lib.ListN.{getD, length, take}
 use lib.Seq.{getD-take, length-take-le, take-all}
-use borrow.Author.Tests.{eq-eqb, ne-eqb, ltb-true, ltb-false, le-leb, lt-leb}
+use borrow.Author.Tests.{ne-eqb, ltb-true, ltb-false, le-leb, lt-leb}
 use Rattle.laws.specs.Bytes.{begins}
 use Rattle.laws.specs.Lists.{every}
 use Rattle.laws.proofs.Conditions.{and-second}
@@ -21,8 +21,9 @@ use Rattle.panels.specs.declared.DisplayBox.{DisplayBox}
 use Rattle.sdcp.specs.Packets.{front, isOurs, groupOf, unitOf}
 use Rattle.steps.specs.Messages.{rs232c, kjw, tcp, udp, Name, nobody, aW, aK, nameOf, names, isW}
 use Rattle.steps.specs.Addressing.{hasIds, isId, isPair, numberOf, byTcp, target, isCalled, addressed}
+use Rattle.steps.specs.Step.{panelAt}
 use Rattle.steps.proofs.Finding.{only-pair}
-use Rattle.steps.proofs.Kept.{valid-names, bad-names}
+use Rattle.steps.proofs.Kept.{valid-names, bad-names, in-use-name}
 
 -- ---- by link
 
@@ -190,12 +191,48 @@ module _ (ns : List Name) (m m′ : List ℕ) (e : take 8 m ≡ take 8 m′) whe
       go (aW g u) = rw (asked-alike, byte-alike 6 (omega arith), byte-alike 7 (omega arith))
       go aK = refl
 
--- ---- a panel's name is its family, group and unit
+-- ---- the same read off the records: "A group ID is never taken for a unit ID"
 
-pub w-name : (p : Panel) → p .family ≡ familyW → nameOf p ≡ aW (p .group) (p .unit)
-unfolding nameOf
-w-name p f = rw (eq-eqb (p .family) familyW f)
+pair-panel : (g : GroupId) (u : UnitId) (p : Panel) → isPair g u (nameOf p) ≡ (eqb (p .family) familyW && (eqb (g .0) (p .group .0) && eqb (u .0) (p .unit .0)))
+unfolding isPair nameOf
+pair-panel g u p = go (eqb (p .family) familyW) (eqb (p .family) familyK)
+  where
+    go : (a c : Bool) → isPair g u (cond a (aW (p .group) (p .unit)) (cond c aK nobody)) ≡ (a && (eqb (g .0) (p .group .0) && eqb (u .0) (p .unit .0)))
+    go true c = refl
+    go false true = refl
+    go false false = refl
 
-pub k-name : (p : Panel) → p .family ≡ familyK → nameOf p ≡ aK
+group-panel : (g : ℕ) (p : Panel) → inGroup g (nameOf p) ≡ (eqb (p .family) familyW && eqb g (p .group .0))
 unfolding nameOf
-k-name p f = rw f
+group-panel g p = go (eqb (p .family) familyW) (eqb (p .family) familyK)
+  where
+    go : (a c : Bool) → inGroup g (cond a (aW (p .group) (p .unit)) (cond c aK nobody)) ≡ (a && eqb g (p .group .0))
+    go true c = refl
+    go false true = refl
+    go false false = refl
+
+w-panel : (p : Panel) → isW (nameOf p) ≡ eqb (p .family) familyW
+unfolding nameOf
+w-panel p = go (eqb (p .family) familyW) (eqb (p .family) familyK)
+  where
+    go : (a c : Bool) → isW (cond a (aW (p .group) (p .unit)) (cond c aK nobody)) ≡ a
+    go true c = refl
+    go false true = refl
+    go false false = refl
+
+-- of each panel in use of a valid box
+module _ (b : DisplayBox) (i : ℕ) (v : valid b ≡ true) (k : i < b .count) (h : i < length (b .panels)) where
+  -- by TCP with 1..99/1..99: a W panel whose group is the packet's group and whose unit is its unit
+  pub pair-in-box : (l : ℕ) (m area : List ℕ) → hasIds m ≡ true → 1 ≤ groupOf m → groupOf m ≤ 99 → 1 ≤ unitOf m → unitOf m ≤ 99 → addressed (names b) (tcp l m area) i ≡ (eqb (panelAt i b .family) familyW && (eqb (groupOf m) (panelAt i b .group .0) && eqb (unitOf m) (panelAt i b .unit .0)))
+  pair-in-box l m area q g g′ u u′ =
+      by-pair b l m area i q g g′ u u′
+      ∙ ap (isPair (record { 0 = groupOf m }) (record { 0 = unitOf m })) (in-use-name b i v k h)
+      ∙ pair-panel (record { 0 = groupOf m }) (record { 0 = unitOf m }) (panelAt i b)
+
+  -- by UDP with 1..99/FFh: a W panel whose group is the packet's group
+  pub group-in-box : (m : List ℕ) → hasIds m ≡ true → 1 ≤ groupOf m → groupOf m ≤ 99 → unitOf m ≡ 0xff → addressed (names b) (udp m) i ≡ (eqb (panelAt i b .family) familyW && eqb (groupOf m) (panelAt i b .group .0))
+  group-in-box m q g g′ u = by-group (names b) m i q g g′ u ∙ ap (inGroup (groupOf m)) (in-use-name b i v k h) ∙ group-panel (groupOf m) (panelAt i b)
+
+  -- by UDP with FFh/FFh: a W panel
+  pub all-in-box : (m : List ℕ) → hasIds m ≡ true → groupOf m ≡ 0xff → unitOf m ≡ 0xff → addressed (names b) (udp m) i ≡ eqb (panelAt i b .family) familyW
+  all-in-box m q g u = by-all (names b) m i q g u ∙ ap isW (in-use-name b i v k h) ∙ w-panel (panelAt i b)

@@ -24,6 +24,7 @@ use Rattle.steps.proofs.Door.{opens, shut, speaks, nobody-speaks, its-f
 
 -- ---- the number of panels and of places
 
+-- the box holds as many panels as before, in as many places, "numbered from 1 in the order given"
 pub count-kept : (b : DisplayBox) (m : Message) → step b m .box .count ≡ b .count
 count-kept b m = by-door (λ (o : Outcome). o .box .count ≡ b .count) b m (λ e. refl) (λ e. refl)
 

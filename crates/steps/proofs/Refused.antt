@@ -1,28 +1,28 @@
 -- Every answer but 0 leaves the box: the message was refused at the door, or each panel's turn left its panel. Answers 1 to 4 send
--- nothing, and by UDP nothing is ever sent.
+-- nothing, by UDP nothing is ever sent, and the first checks are those of the table.
 use mathlib.Core.Path.{_≡_, refl, sym, ap, _∙_}
 use mathlib.Core.Bool.{Bool, true, false}
-use mathlib.Core.List.{List, []}
-use Prim.Native.Nat.{ℕ, suc, _-_, _<_, _≤_}
+use mathlib.Core.List.{List, [], _∷_}
+use Prim.Native.Nat.{ℕ, zero, suc, _-_, _<_, _≤_}
 use native.Mathlib.Omega.{arith}
 use lib.Dec.{eqb}
 use lib.ListN.{length, getD}
 use lib.Seq.{ext-getD}
-use borrow.Author.Tests.{eqb-true, lt-ltb, le-ltb}
+use borrow.Author.Tests.{eqb-true, eq-eqb, lt-ltb, le-ltb}
 use Rattle.laws.specs.Runs.{each}
-use Rattle.laws.proofs.Conditions.{choose}
+use Rattle.laws.proofs.Conditions.{false-true, choose}
 use Rattle.laws.proofs.Runs.{each-at, each-length}
 use Rattle.terms.specs.Answers.{numberOf}
 use Rattle.terms.specs.declared.Answer.{Answer}
-use Rattle.terms.specs.declared.Answer.the-variants.{AreaTooSmall, NoSuchPanel}
+use Rattle.terms.specs.declared.Answer.the-variants.{AreaTooSmall, NoSuchPanel, WrongLength, NotForUs}
 use Rattle.panels.specs.Records.{pastEnd}
 use Rattle.panels.specs.Valid.{valid}
 use Rattle.panels.specs.declared.Panel.{Panel}
 use Rattle.panels.specs.declared.DisplayBox.{DisplayBox}
 use Rattle.sdcp.specs.Packets.{heardOf}
 use Rattle.sdcp.proofs.Told.{turned-answer}
-use Rattle.steps.specs.Messages.{Message, rs232c, kjw, tcp, udp, Name, names, onLink}
-use Rattle.steps.specs.Addressing.{target, addressed}
+use Rattle.steps.specs.Messages.{Message, rs232c, kjw, tcp, udp, Name, nobody, names, onLink, isW}
+use Rattle.steps.specs.Addressing.{target, isCalled, addressed, anyCalled}
 use Rattle.steps.specs.Step.{toNobody, door, Turn, turn, nothing, back, Outcome, panelAt, ownTurn, answerTo, refused, step}
 use Rattle.steps.proofs.Sound.{sound}
 use Rattle.steps.proofs.Door.{no-link, nobody-shut, speaks, nobody-speaks, by-door}
@@ -125,6 +125,36 @@ pub bad-udp : (b : DisplayBox) (m : List ℕ) → valid b ≡ false → step b (
 unfolding door
 bad-udp b m v = stopped b (udp m) (toNobody m) (rw (bad-names b v)) (nobody-shut m)
 
+-- "A box holds 1 to 8 panels": a box of none is such a box
 pub no-panels : (b : DisplayBox) → b .count ≡ 0 → valid b ≡ false
 unfolding valid
 no-panels b e = rw e
+
+-- ---- nobody is addressed
+
+-- "Under 13 bytes: 3. [..] or no panel addressed: 4."
+pub short-to-nobody : (m : List ℕ) → length m < 13 → toNobody m ≡ WrongLength
+unfolding toNobody
+short-to-nobody m h = rw (lt-ltb (length m) 13 h)
+
+pub long-to-nobody : (m : List ℕ) → 13 ≤ length m → toNobody m ≡ NotForUs
+unfolding toNobody
+long-to-nobody m h = rw (le-ltb (length m) 13 h)
+
+none-called : (m : List ℕ) (ns : List Name) → ((i : ℕ) → isCalled m (getD ns i nobody) ≡ false) → anyCalled m ns ≡ false
+none-called m [] n = refl
+none-called m (x ∷ ns) n = rw (n 0) (none-called m ns (λ i. n (suc i)))
+
+-- by UDP, where no panel is addressed
+pub nobody-udp : (b : DisplayBox) (m : List ℕ) → ((i : ℕ) → addressed (names b) (udp m) i ≡ false) → step b (udp m) ≡ refused b (udp m) (toNobody m)
+unfolding door addressed
+nobody-udp b m n = stopped b (udp m) (toNobody m) (rw (none-called m (names b) n)) (nobody-shut m)
+
+no-target : (t : ℕ) → ((i : ℕ) → eqb t (suc i) ≡ false) → eqb t 0 ≡ true
+no-target zero n = refl
+no-target (suc i) n = absurd (false-true (sym (n i) ∙ eq-eqb (suc i) (suc i) refl))
+
+-- and by TCP, once checks 1 and 2 are passed
+pub nobody-tcp : (b : DisplayBox) (l : ℕ) (m area : List ℕ) → 512 ≤ length area → isW (onLink (names b) l) ≡ true → ((i : ℕ) → addressed (names b) (tcp l m area) i ≡ false) → step b (tcp l m area) ≡ refused b (tcp l m area) (toNobody m)
+unfolding door addressed
+nobody-tcp b l m area h w n = stopped b (tcp l m area) (toNobody m) (rw (le-ltb (length area) 512 h, w, no-target (target (names b) (tcp l m area)) n)) (nobody-shut m)
