@@ -34,7 +34,7 @@ use Rattle.steps.specs.Messages.{Message, tcp, udp, names}
 use Rattle.steps.specs.Addressing.{addressed}
 use Rattle.steps.specs.Step.{turn, backOn, panelAt, step}
 use Rattle.steps.specs.Run.{run}
-use Rattle.steps.proofs.Stays.{sets, none, told-lasts}
+use Rattle.steps.proofs.Stays.{sets, spared, told-lasts}
 use Rattle.steps.proofs.Turns.{Reaches, door-passed, done-reaches, takes}
 
 -- ---- SDCP
@@ -97,14 +97,14 @@ module _ (b : DisplayBox) (m : Message) (i : ℕ) (p : List ℕ) (c : Brings p m
       let h = understood-fits (dataOf p) (Set k v) (heard-words p (Set k v) e) .0 in
       ap (λ (w : WRecord). getD (w .settings) k 0) (obeyed p (Set k v) c e (done-reaches b m i d a)) ∙ getD-set-same (panelAt i b .w .settings) k v 0 (omega arith)
 
-  -- what an order leaves to be told is told by a STATget that comes to the panel then, or after messages that do not set that name
-  told-later : (o : Order) (k : ℕ) (t : Told) → heardOf p ≡ Understood o → toldOf (Get k) (carried o (panelAt i b .w)) ≡ t → (ms : List Message) → none (λ (x : Message). sets x k) ms ≡ true → (l : ℕ) (p′ area : List ℕ) → Reaches (run (step b m .box) ms) (tcp l p′ area) i → heardOf p′ ≡ Understood (Get k) → Tells (run (step b m .box) ms) l p′ area (textOf t)
+  -- what an order leaves to be told is told by a STATget that comes to the panel next, or after messages of which none that is addressed to it sets that name
+  told-later : (o : Order) (k : ℕ) (t : Told) → heardOf p ≡ Understood o → toldOf (Get k) (carried o (panelAt i b .w)) ≡ t → (ms : List Message) → spared (λ (x : Message). sets x k) i (step b m .box) ms ≡ true → (l : ℕ) (p′ area : List ℕ) → Reaches (run (step b m .box) ms) (tcp l p′ area) i → heardOf p′ ≡ Understood (Get k) → Tells (run (step b m .box) ms) l p′ area (textOf t)
   told-later o k t e q ms n l p′ area r f =
       let u = told-lasts k ms (step b m .box) i n ∙ ap (toldOf (Get k)) (obeyed p o c e (done-reaches b m i d a)) ∙ q in
       subst (λ (x : Told). Tells (run (step b m .box) ms) l p′ area (textOf x)) u (asked (run (step b m .box) ms) i l k p′ area r f)
 
-  -- it is told, next or after any messages that do not set it
-  pub set-asked : (k v : ℕ) → heardOf p ≡ Understood (Set k v) → length (panelAt i b .w .settings) ≡ 21 → (ms : List Message) → none (λ (x : Message). sets x k) ms ≡ true → (l : ℕ) (p′ area : List ℕ) → Reaches (run (step b m .box) ms) (tcp l p′ area) i → heardOf p′ ≡ Understood (Get k) → Tells (run (step b m .box) ms) l p′ area (setWords k v)
+  -- it is told, next or after any messages of which none that is addressed to the panel sets it
+  pub set-asked : (k v : ℕ) → heardOf p ≡ Understood (Set k v) → length (panelAt i b .w .settings) ≡ 21 → (ms : List Message) → spared (λ (x : Message). sets x k) i (step b m .box) ms ≡ true → (l : ℕ) (p′ area : List ℕ) → Reaches (run (step b m .box) ms) (tcp l p′ area) i → heardOf p′ ≡ Understood (Get k) → Tells (run (step b m .box) ms) l p′ area (setWords k v)
   unfolding textOf
   set-asked k v e s = told-later (Set k v) k (Value k v) e (set-told (dataOf p) k v (panelAt i b .w) (heard-words p (Set k v) e) s)
 
@@ -115,12 +115,12 @@ module _ (b : DisplayBox) (m : Message) (i : ℕ) (p : List ℕ) (c : Brings p m
       let h = understood-fits (dataOf p) (Shift axis z) (heard-words p (Shift axis z) e) .0 in
       ap (λ (w : WRecord). getD (w .shifts) axis (pos 0)) (obeyed p (Shift axis z) c e (done-reaches b m i d a)) ∙ getD-set-same (panelAt i b .w .shifts) axis z (pos 0) (omega arith)
 
-  -- it is told, next or after any messages that do not set it
-  pub shift-asked : (axis : ℕ) (z : ℤ) → heardOf p ≡ Understood (Shift axis z) → length (panelAt i b .w .shifts) ≡ 2 → (ms : List Message) → none (λ (x : Message). sets x (21 + axis)) ms ≡ true → (l : ℕ) (p′ area : List ℕ) → Reaches (run (step b m .box) ms) (tcp l p′ area) i → heardOf p′ ≡ Understood (Get (21 + axis)) → Tells (run (step b m .box) ms) l p′ area (moveWords (21 + axis) z)
+  -- it is told, next or after any messages of which none that is addressed to the panel sets it
+  pub shift-asked : (axis : ℕ) (z : ℤ) → heardOf p ≡ Understood (Shift axis z) → length (panelAt i b .w .shifts) ≡ 2 → (ms : List Message) → spared (λ (x : Message). sets x (21 + axis)) i (step b m .box) ms ≡ true → (l : ℕ) (p′ area : List ℕ) → Reaches (run (step b m .box) ms) (tcp l p′ area) i → heardOf p′ ≡ Understood (Get (21 + axis)) → Tells (run (step b m .box) ms) l p′ area (moveWords (21 + axis) z)
   unfolding textOf
   shift-asked axis z e s = told-later (Shift axis z) (21 + axis) (Offset (21 + axis) z) e (shift-told (dataOf p) axis z (panelAt i b .w) (heard-words p (Shift axis z) e) s)
 
-  -- "RESET (both shifts to 0, house)": 0 is told of either, next or after any messages that do not set it
-  pub reset-asked : (axis : ℕ) → heardOf p ≡ Understood Reset → axis < 2 → (ms : List Message) → none (λ (x : Message). sets x (21 + axis)) ms ≡ true → (l : ℕ) (p′ area : List ℕ) → Reaches (run (step b m .box) ms) (tcp l p′ area) i → heardOf p′ ≡ Understood (Get (21 + axis)) → Tells (run (step b m .box) ms) l p′ area (moveWords (21 + axis) (pos 0))
+  -- "RESET (both shifts to 0, house)": 0 is told of either, next or after any messages of which none that is addressed to the panel sets it
+  pub reset-asked : (axis : ℕ) → heardOf p ≡ Understood Reset → axis < 2 → (ms : List Message) → spared (λ (x : Message). sets x (21 + axis)) i (step b m .box) ms ≡ true → (l : ℕ) (p′ area : List ℕ) → Reaches (run (step b m .box) ms) (tcp l p′ area) i → heardOf p′ ≡ Understood (Get (21 + axis)) → Tells (run (step b m .box) ms) l p′ area (moveWords (21 + axis) (pos 0))
   unfolding textOf
   reset-asked axis e h = told-later Reset (21 + axis) (Offset (21 + axis) (pos 0)) e (reset-told axis (panelAt i b .w) h)

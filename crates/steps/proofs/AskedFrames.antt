@@ -19,7 +19,7 @@ use Rattle.steps.specs.Messages.{Message, kjw, names}
 use Rattle.steps.specs.Addressing.{target, addressed}
 use Rattle.steps.specs.Step.{turn, backOn, panelAt, step}
 use Rattle.steps.specs.Run.{run}
-use Rattle.steps.proofs.Stays.{setsState, none, value-lasts}
+use Rattle.steps.proofs.Stays.{setsState, spared, value-lasts}
 use Rattle.steps.proofs.Turns.{Reaches, door-passed, done-reaches, takes}
 
 -- a frame that was answered 0, on the link of the panel at place i
@@ -47,8 +47,8 @@ enquiry-asked b i l s area r =
     let room = door-passed (names b) (kjw l (frameOf typeEnquiry (nameOf s) blank) area) (r .passes) .room in
     takes r .back-is ∙ ap (backOn area) (met-asked (length area) s (panelAt i b .k) room)
 
--- POWR, AMUT, PMUT, VOLU, INPT and SCEN: an enquiry that comes to the panel next, or after any messages that do not set the state, is answered with the control's own parameters
-pub control-asked : (b : DisplayBox) (i l : ℕ) (s : State) (p area area′ : List ℕ) (ms : List Message) → length p ≡ 16 → step b (kjw (suc i) (frameOf typeControl (nameOf s) p) area) .answer ≡ Done → none (λ (m : Message). setsState m s) ms ≡ true → Reaches (run (step b (kjw (suc i) (frameOf typeControl (nameOf s) p) area) .box) ms) (kjw l (frameOf typeEnquiry (nameOf s) blank) area′) i → step (run (step b (kjw (suc i) (frameOf typeControl (nameOf s) p) area) .box) ms) (kjw l (frameOf typeEnquiry (nameOf s) blank) area′) .back ≡ backOn area′ (frameOf typeAnswer (nameOf s) p)
+-- POWR, AMUT, PMUT, VOLU, INPT and SCEN: an enquiry that comes to the panel next, or after any messages of which none that is addressed to it sets the state, is answered with the control's own parameters
+pub control-asked : (b : DisplayBox) (i l : ℕ) (s : State) (p area area′ : List ℕ) (ms : List Message) → length p ≡ 16 → step b (kjw (suc i) (frameOf typeControl (nameOf s) p) area) .answer ≡ Done → spared (λ (m : Message). setsState m s) i (step b (kjw (suc i) (frameOf typeControl (nameOf s) p) area) .box) ms ≡ true → Reaches (run (step b (kjw (suc i) (frameOf typeControl (nameOf s) p) area) .box) ms) (kjw l (frameOf typeEnquiry (nameOf s) blank) area′) i → step (run (step b (kjw (suc i) (frameOf typeControl (nameOf s) p) area) .box) ms) (kjw l (frameOf typeEnquiry (nameOf s) blank) area′) .back ≡ backOn area′ (frameOf typeAnswer (nameOf s) p)
 control-asked b i l s p area area′ ms h d n r =
     let control = frameOf typeControl (nameOf s) p in
     let enquiry = frameOf typeEnquiry (nameOf s) blank in

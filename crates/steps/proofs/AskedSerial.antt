@@ -24,7 +24,7 @@ use Rattle.steps.specs.Messages.{Message, rs232c, names}
 use Rattle.steps.specs.Addressing.{target, addressed}
 use Rattle.steps.specs.Step.{turn, backOn, panelAt, step}
 use Rattle.steps.specs.Run.{run}
-use Rattle.steps.proofs.Stays.{bears, none, balance-lasts}
+use Rattle.steps.proofs.Stays.{bears, spared, balance-lasts}
 use Rattle.steps.proofs.Turns.{Reaches, door-passed, done-reaches, takes}
 
 -- a message that comes to the panel of its link: the record afterwards and the reply
@@ -65,8 +65,8 @@ module _ (b : DisplayBox) (i s : ℕ) (m area : List ℕ) (d : step b (rs232c (s
     pub levels-kept : (k : ℕ) → k < 3 → (getD (panelAt i (step b (rs232c (suc i) m area) .box) .w .balance .gains) k 0 ≡ put gainOf (getD (decode 6 mask (valuesOf m)) k silent) (getD (panelAt i b .w .balance .gains) k 0)) × (getD (panelAt i (step b (rs232c (suc i) m area) .box) .w .balance .biases) k (pos 0) ≡ put biasOf (getD (decode 6 mask (valuesOf m)) (3 + k) silent) (getD (panelAt i b .w .balance .biases) k (pos 0)))
     levels-kept k n = rw (after came) (back.levels-kept (length area) s mask m (panelAt i b .w) g h done e k n)
 
-    -- 40h, then 61h, next or after any messages without a 40h: it brings what was said, and of what nothing was said, what the same 61h brings without the 40h
-    pub levels-asked : (ms : List Message) → none (bears 0x40) ms ≡ true → (l s′ which : ℕ) (m′ area′ : List ℕ) → Reaches b (rs232c l m′ area′) i → Reaches (run (step b (rs232c (suc i) m area) .box) ms) (rs232c l m′ area′) i → heardOf m′ ≡ Understood s′ (Sense which) → (before : Three) × (behind : Three) × (step b (rs232c l m′ area′) .back ≡ backOn area′ (bytesOf (Balances s′ which before))) × (step (run (step b (rs232c (suc i) m area) .box) ms) (rs232c l m′ area′) .back ≡ backOn area′ (bytesOf (Balances s′ which behind))) × back.AskedBack which (decode 6 mask (valuesOf m)) before behind
+    -- 40h, then 61h, next or after any messages without a 40h for the panel: it brings what was said, and of what nothing was said, what the same 61h brings without the 40h
+    pub levels-asked : (ms : List Message) → spared (bears 0x40) i (step b (rs232c (suc i) m area) .box) ms ≡ true → (l s′ which : ℕ) (m′ area′ : List ℕ) → Reaches b (rs232c l m′ area′) i → Reaches (run (step b (rs232c (suc i) m area) .box) ms) (rs232c l m′ area′) i → heardOf m′ ≡ Understood s′ (Sense which) → (before : Three) × (behind : Three) × (step b (rs232c l m′ area′) .back ≡ backOn area′ (bytesOf (Balances s′ which before))) × (step (run (step b (rs232c (suc i) m area) .box) ms) (rs232c l m′ area′) .back ≡ backOn area′ (bytesOf (Balances s′ which behind))) × back.AskedBack which (decode 6 mask (valuesOf m)) before behind
     levels-asked ms n l s′ which m′ area′ r r′ f =
         let room = door-passed (names b) (rs232c l m′ area′) (r .passes) .room in
         let t = back.levels-then-sense (length area) s mask m (panelAt i b .w) g h done e (length area′) s′ which m′ room f in

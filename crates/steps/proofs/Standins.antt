@@ -41,20 +41,21 @@ abbrev pub replyOf : Outcome → List ℕ
 replyOf o = take (o .back .len) (o .back .area)
 
 -- what the run shows
-record Shown : Type 0 where
+pub record Shown : Type 0 where
   -- VOLUME 100 is answered 0
-  obeys : step box volume100 .answer ≡ Done
+  pub obeys : step box volume100 .answer ≡ Done
   -- the set stands in the record
-  starts : volume box ≡ 30
-  stands : volume (step box volume40 .box) ≡ 40
+  pub starts : volume box ≡ 30
+  pub stands : volume (step box volume40 .box) ≡ 40
   -- two STATgets after different sets, and STATget after a second set
-  first-told : replyOf (step (run box (volume40 ∷ [])) volumeAsked) ≡ packet 0x00 0x00 0x01 0x00 0x09 (ascii "VOLUME 40")
-  other-told : replyOf (step (run box (volume100 ∷ [])) volumeAsked) ≡ packet 0x00 0x00 0x01 0x00 0x0a (ascii "VOLUME 100")
-  second-told : replyOf (step (run box (volume40 ∷ volume100 ∷ [])) volumeAsked) ≡ packet 0x00 0x00 0x01 0x00 0x0a (ascii "VOLUME 100")
+  pub first-told : replyOf (step (run box (volume40 ∷ [])) volumeAsked) ≡ packet 0x00 0x00 0x01 0x00 0x09 (ascii "VOLUME 40")
+  pub other-told : replyOf (step (run box (volume100 ∷ [])) volumeAsked) ≡ packet 0x00 0x00 0x01 0x00 0x0a (ascii "VOLUME 100")
+  pub second-told : replyOf (step (run box (volume40 ∷ volume100 ∷ [])) volumeAsked) ≡ packet 0x00 0x00 0x01 0x00 0x0a (ascii "VOLUME 100")
   -- the length is that of the bytes at the area's front, and behind them is what was lent
-  written : step (run box (volume40 ∷ [])) volumeAsked .back ≡ record { len = 22; area = packet 0x00 0x00 0x01 0x00 0x09 (ascii "VOLUME 40") ++ lent 490 }
+  pub written : step (run box (volume40 ∷ [])) volumeAsked .back ≡ record { len = 22; area = packet 0x00 0x00 0x01 0x00 0x09 (ascii "VOLUME 40") ++ lent 490 }
 
-shown : Shown
+-- computed
+pub shown : Shown
 unfolding configured asked askedAt valid okPanel okIds zeroIds okW okK okInput okInputs okBalance okGain okBias okShift share distinct nameOf names address.hasIds address.byTcp address.target address.addressed door turn step asks.isOurs asks.isBroken asks.heardOf number inBytes packets.packetOf packets.bytesOf packets.turned packets.told isDigit decimal inDigits numeral namedBy ledBy words.carried words.toldOf readData readSet readGet valueOrder levelOf isNumeral leadsZero textOf setWords valueWords
 shown = record { obeys = refl; starts = refl; stands = refl; first-told = refl; other-told = refl; second-told = refl; written = refl }
 

@@ -1,12 +1,11 @@
 -- What was not ordered stays: every panel takes its turn or is left, and a turn changes only what its message sets.
 use Prim.Native.Nat.{ℕ}
-use mathlib.Core.Path.{_≡_, refl, sym, _∙_}
-use mathlib.Core.Bool.{Bool, true, false, not, _||_}
+use mathlib.Core.Path.{_≡_, refl, sym, ap, _∙_}
+use mathlib.Core.Bool.{Bool, true, false, not, _&&_, _||_}
 use mathlib.Core.List.{List, [], _∷_}
 use lib.Dec.{eqb, ltb}
 use lib.ListN.{length, getD}
 use borrow.Author.Tests.{eqb-false, not-true}
-use Rattle.laws.specs.Lists.{every}
 use Rattle.laws.proofs.Conditions.{choose, false-true, and-first, and-second}
 use Rattle.panels.specs.declared.Panel.{Panel}
 use Rattle.panels.specs.declared.WRecord.{WRecord}
@@ -24,10 +23,11 @@ use Rattle.sdcp.specs.Packets.{heardOf}
 use Rattle.sdcp.specs.Replies as packets
 use Rattle.sdcp.specs.declared.Heard.{Heard}
 use Rattle.sdcp.specs.declared.Heard.the-variants.{Refused, Broken, Strange, Understood}
-use Rattle.steps.specs.Messages.{Message, rs232c, kjw, tcp, udp}
+use Rattle.steps.specs.Messages.{Message, rs232c, kjw, tcp, udp, names}
+use Rattle.steps.specs.Addressing.{addressed}
 use Rattle.steps.specs.Step.{turn, panelAt, step}
 use Rattle.steps.specs.Run.{run}
-use Rattle.steps.proofs.Turns.{either}
+use Rattle.steps.proofs.Turns.{either, left}
 
 -- what was heard is an order that sets name j
 abbrev pub ordersIt : Heard → ℕ → Bool
@@ -132,28 +132,37 @@ value-stays b m i s n = either (λ (p : Panel). valueOf s (p .k) ≡ valueOf s (
 
 -- ---- over a run
 
--- none of the messages is one that sets
-abbrev pub none : (Message → Bool) → List Message → Bool
-none sets ms = every (λ (m : Message). not (sets m)) ms
+-- none of the messages that are addressed to place i, as addressing stands when each comes, is one that sets
+abbrev pub spared : (Message → Bool) → ℕ → DisplayBox → List Message → Bool
+spared sets i b [] = true
+spared sets i b (m ∷ ms) = not (addressed (names b) m i && sets m) && spared sets i (step b m .box) ms
 
 module _ {A : Type 0} (f : Panel → A) (sets : Message → Bool) (s : (b : DisplayBox) (m : Message) (i : ℕ) → sets m ≡ false → f (panelAt i (step b m .box)) ≡ f (panelAt i b)) where
-  -- what stays at each message that does not set it stays over any run of such
-  run-stays : (ms : List Message) (b : DisplayBox) (i : ℕ) → none sets ms ≡ true → f (panelAt i (run b ms)) ≡ f (panelAt i b)
+  one-stays : (b : DisplayBox) (m : Message) (i : ℕ) → (addressed (names b) m i && sets m) ≡ false → f (panelAt i (step b m .box)) ≡ f (panelAt i b)
+  one-stays b m i = go (addressed (names b) m i) refl
+    where
+      go : (x : Bool) → addressed (names b) m i ≡ x → (x && sets m) ≡ false → f (panelAt i (step b m .box)) ≡ f (panelAt i b)
+      go true e n = s b m i n
+      go false e n = ap f (left b m i e)
+
+  -- what stays at each message that does not set it stays over any run in which none that is addressed to the panel does
+  run-stays : (ms : List Message) (b : DisplayBox) (i : ℕ) → spared sets i b ms ≡ true → f (panelAt i (run b ms)) ≡ f (panelAt i b)
   run-stays [] b i e = refl
   run-stays (m ∷ ms) b i e =
-      run-stays ms (step b m .box) i (and-second (not (sets m)) (none sets ms) e)
-      ∙ s b m i (not-true (sets m) (and-first (not (sets m)) (none sets ms) e))
+      let quiet = not (addressed (names b) m i && sets m) in
+      run-stays ms (step b m .box) i (and-second quiet (spared sets i (step b m .box) ms) e)
+      ∙ one-stays b m i (not-true (addressed (names b) m i && sets m) (and-first quiet (spared sets i (step b m .box) ms) e))
 
 -- what STATget tells of name j
-pub told-lasts : (j : ℕ) (ms : List Message) (b : DisplayBox) (i : ℕ) → none (λ (m : Message). sets m j) ms ≡ true → toldOf (Get j) (panelAt i (run b ms) .w) ≡ toldOf (Get j) (panelAt i b .w)
+pub told-lasts : (j : ℕ) (ms : List Message) (b : DisplayBox) (i : ℕ) → spared (λ (m : Message). sets m j) i b ms ≡ true → toldOf (Get j) (panelAt i (run b ms) .w) ≡ toldOf (Get j) (panelAt i b .w)
 told-lasts j ms b i e = run-stays (λ (p : Panel). toldOf (Get j) (p .w)) (λ (m : Message). sets m j) (λ c m k n. told-stays c m k j n) ms b i e
 
 -- the white balance
-pub balance-lasts : (ms : List Message) (b : DisplayBox) (i : ℕ) → none (bears 0x40) ms ≡ true → panelAt i (run b ms) .w .balance ≡ panelAt i b .w .balance
+pub balance-lasts : (ms : List Message) (b : DisplayBox) (i : ℕ) → spared (bears 0x40) i b ms ≡ true → panelAt i (run b ms) .w .balance ≡ panelAt i b .w .balance
 balance-lasts ms b i e = run-stays (λ (p : Panel). p .w .balance) (bears 0x40) balance-stays ms b i e
 
 -- the connectors and the preset
-pub inputs-last : (ms : List Message) (b : DisplayBox) (i : ℕ) → none (λ (m : Message). bears 0x21 m || bears 0x22 m) ms ≡ true → panelAt i (run b ms) .w .inputs ≡ panelAt i b .w .inputs
+pub inputs-last : (ms : List Message) (b : DisplayBox) (i : ℕ) → spared (λ (m : Message). bears 0x21 m || bears 0x22 m) i b ms ≡ true → panelAt i (run b ms) .w .inputs ≡ panelAt i b .w .inputs
 inputs-last ms b i e =
     run-stays (λ (p : Panel). p .w .inputs) (λ (m : Message). bears 0x21 m || bears 0x22 m)
     (λ c m k n. inputs-stay c m k (neither (bears 0x21 m) (bears 0x22 m) n .0) (neither (bears 0x21 m) (bears 0x22 m) n .1)) ms b i e
@@ -163,5 +172,5 @@ inputs-last ms b i e =
     neither false y n = (refl, n)
 
 -- the value of a KJW state
-pub value-lasts : (s : State) (ms : List Message) (b : DisplayBox) (i : ℕ) → none (λ (m : Message). setsState m s) ms ≡ true → valueOf s (panelAt i (run b ms) .k) ≡ valueOf s (panelAt i b .k)
+pub value-lasts : (s : State) (ms : List Message) (b : DisplayBox) (i : ℕ) → spared (λ (m : Message). setsState m s) i b ms ≡ true → valueOf s (panelAt i (run b ms) .k) ≡ valueOf s (panelAt i b .k)
 value-lasts s ms b i e = run-stays (λ (p : Panel). valueOf s (p .k)) (λ (m : Message). setsState m s) (λ c m k n. value-stays c m k s n) ms b i e
