@@ -3,7 +3,7 @@ use Prim.Native.Nat.{ℕ}
 use mathlib.Core.Path.{_≡_, refl}
 use mathlib.Core.List.{List, [], _∷_, _++_}
 use lib.ListN.{set, replicate}
-use lib.IntN.{ℤ, pos, negsuc}
+use lib.IntN.{pos, negsuc}
 use Rattle.laws.specs.Bytes.{ascii}
 use Rattle.laws.specs.Numbers.{number, inBytes}
 use Rattle.terms.specs.declared.Answer.{Answer}
@@ -16,7 +16,7 @@ use Rattle.vmc.specs.Orders.{withSettings, withShifts, carried, toldOf}
 use Rattle.vmc.specs.Reading.{readData, readSet, readGet, valueOrder, levelOf, isNumeral, leadsZero, shiftOrder}
 use Rattle.vmc.specs.Texts.{textOf, setWords, moveWords, valueWords, shiftWords}
 use Rattle.sdcp.specs.Packets.{isOurs, isBroken, heardOf}
-use Rattle.sdcp.specs.Replies.{packetOf, bytesOf, Turn, turned, told}
+use Rattle.sdcp.specs.Replies.{packetOf, bytesOf, turned, told}
 
 -- "03 0B 53 4F 4E 59 00 00 00 B0 00", the data's length, and the data
 packet : List ℕ → ℕ → List ℕ → List ℕ

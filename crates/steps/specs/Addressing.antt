@@ -1,6 +1,6 @@
 -- Document 01, "Addressing": whom a message addresses. The panels' families and IDs, the way in and bytes 0 to 7 decide it, and
 -- nothing else.
-use Prim.Native.Nat.{ℕ, zero, suc}
+use Prim.Native.Nat.{ℕ, suc}
 use mathlib.Core.Bool.{Bool, false, cond, _&&_, _||_}
 use mathlib.Core.List.{List, [], _∷_}
 use lib.Dec.{eqb, leb}

@@ -1,0 +1,5 @@
+mod Calls
+pub mod Determined
+mod Links
+mod Names
+mod Stores
