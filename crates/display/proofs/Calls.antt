@@ -23,7 +23,7 @@ use Rattle.steps.specs.Addressing.{isCalled, addressed, anyCalled}
 use Rattle.steps.specs.Step.{withW, withPanels, toNobody, door, turn, nothing, passed, refused, step}
 use Rattle.steps.proofs.Door.{nobody-shut}
 use Rattle.display.specs.Promise.{heeded}
-use Rattle.display.proofs.Links.{valid-names}
+use Rattle.steps.proofs.Kept.{valid-names}
 
 pub uncalled : (b : DisplayBox) (m : List ℕ) → anyCalled m (names b) ≡ false → step b (udp m) ≡ refused b (udp m) (toNobody m)
 unfolding step door

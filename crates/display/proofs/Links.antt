@@ -17,33 +17,13 @@ use Rattle.panels.specs.declared.DisplayBox.{DisplayBox}
 use Rattle.steps.specs.Messages.{Name, nobody, aW, aK, nameOf, names, onLink, isW, isK}
 use Rattle.steps.specs.Step.{panelAt}
 use Rattle.steps.proofs.Door.{no-link}
+use Rattle.steps.proofs.Kept.{bad-names, in-use-name, unused-name}
 use Rattle.display.specs.Promise.{isOn}
 
 -- "A box holds 1 to 8 panels"
 pub valid-count : (b : DisplayBox) → valid b ≡ true → b .count ≤ 8
 unfolding valid
 valid-count b e = leb-true (b .count) 8 (and-second (leb 1 (b .count)) (leb (b .count) 8) (and-first (leb 1 (b .count) && leb (b .count) 8) (every okPanel (inUse b)) (and-first (leb 1 (b .count) && leb (b .count) 8 && every okPanel (inUse b)) (distinct (inUse b)) e)))
-
-pub valid-names : (b : DisplayBox) → valid b ≡ true → names b ≡ map nameOf (take (b .count) (b .panels))
-unfolding names
-valid-names b e = rw e
-
-pub bad-names : (b : DisplayBox) → valid b ≡ false → names b ≡ []
-unfolding names
-bad-names b e = rw e
-
--- the name at a place in use, and behind them
-name-at : (ps : List Panel) (n i : ℕ) → i < n → n ≤ length ps → getD (map nameOf (take n ps)) i nobody ≡ nameOf (getD ps i pastEnd)
-name-at [] n i h k = absurd (omega arith)
-name-at (p ∷ ps) zero i h k = absurd (omega arith)
-name-at (p ∷ ps) (suc n) zero h k = refl
-name-at (p ∷ ps) (suc n) (suc i) h k = name-at ps n i (omega arith) (omega arith)
-
-name-behind : (ps : List Panel) (n i : ℕ) → n ≤ i → getD (map nameOf (take n ps)) i nobody ≡ nobody
-name-behind ps zero i h = refl
-name-behind [] (suc n) i h = refl
-name-behind (p ∷ ps) (suc n) zero h = absurd (omega arith)
-name-behind (p ∷ ps) (suc n) (suc i) h = name-behind ps n i (omega arith)
 
 -- the names from place i on: the panel's there, then those from i + 1 on
 pub names-from : (ps : List Panel) (n i : ℕ) → i < n → n ≤ length ps → drop i (map nameOf (take n ps)) ≡ nameOf (getD ps i pastEnd) ∷ drop (suc i) (map nameOf (take n ps))
@@ -92,20 +72,20 @@ on : (f : Name → Bool) (family : ℕ) → f nobody ≡ false → ((p : Panel) 
 unfolding isOn
 on f family n e b l h = judged (valid b) refl l
   where
-    linked : (l : ℕ) → valid b ≡ true → (true && leb 1 l && leb l (b .count) && eqb (panelAt (l - 1) b .family) family) ≡ f (onLink (map nameOf (take (b .count) (b .panels))) l)
+    linked : (l : ℕ) → valid b ≡ true → (true && leb 1 l && leb l (b .count) && eqb (panelAt (l - 1) b .family) family) ≡ f (onLink (names b) l)
     linked zero v = sym n
     linked (suc i) v = rw (le-leb 1 (suc i) (omega arith)) (go (leb (suc i) (b .count)) refl)
       where
-        go : (c : Bool) → leb (suc i) (b .count) ≡ c → (true && c && eqb (panelAt (suc i - 1) b .family) family) ≡ f (getD (map nameOf (take (b .count) (b .panels))) i nobody)
+        go : (c : Bool) → leb (suc i) (b .count) ≡ c → (true && c && eqb (panelAt (suc i - 1) b .family) family) ≡ f (getD (names b) i nobody)
         go true q =
             let s = leb-true (suc i) (b .count) q in
             let c8 = valid-count b v in
             let j : suc i - 1 ≡ i = omega arith in
-            ap (λ (k : ℕ). eqb (panelAt k b .family) family) j ∙ sym (e (panelAt i b)) ∙ ap f (sym (name-at (b .panels) (b .count) i (omega arith) (omega (arith, h, c8))))
-        go false q = sym (ap f (name-behind (b .panels) (b .count) i (let s = leb-false (suc i) (b .count) q in omega arith)) ∙ n)
+            ap (λ (k : ℕ). eqb (panelAt k b .family) family) j ∙ sym (e (panelAt i b)) ∙ ap f (sym (in-use-name b i v (omega arith) (omega (arith, h, c8))))
+        go false q = sym (ap f (unused-name b i v (let s = leb-false (suc i) (b .count) q in omega arith)) ∙ n)
 
     judged : (v : Bool) → valid b ≡ v → (l : ℕ) → (v && leb 1 l && leb l (b .count) && eqb (panelAt (l - 1) b .family) family) ≡ f (onLink (names b) l)
-    judged true v l = linked l v ∙ ap (λ (ns : List Name). f (onLink ns l)) (sym (valid-names b v))
+    judged true v l = linked l v
     judged false v l = sym (ap (λ (ns : List Name). f (onLink ns l)) (bad-names b v) ∙ ap f (no-link l) ∙ n)
 
 pub on-w : (b : DisplayBox) (l : ℕ) → length (b .panels) ≡ 8 → isOn familyW b l ≡ isW (onLink (names b) l)

@@ -23,11 +23,11 @@ zero-less zero h = absurd (omega arith)
 zero-less (suc n) h = +ℤ-idl (negsuc n) ∙ ap negsuc (omega arith)
 
 -- a number that is not below 0, and one that is
-pub from-zero : (z : ℤ) → leZ (pos 0) z ≡ true → (n : ℕ) × (z ≡ pos n)
+from-zero : (z : ℤ) → leZ (pos 0) z ≡ true → (n : ℕ) × (z ≡ pos n)
 from-zero (pos n) e = (n, refl)
 from-zero (negsuc n) e = let b : _≡_ {A = ℕ} 0 1 = cc in let w : ⊥ = omega arith in absurd w
 
-pub under-zero : (z : ℤ) → leZ (pos 0) z ≡ false → (n : ℕ) × (z ≡ negsuc n)
+under-zero : (z : ℤ) → leZ (pos 0) z ≡ false → (n : ℕ) × (z ≡ negsuc n)
 under-zero (pos n) e = let t = leb·zero n in let b : _≡_ {A = ℕ} 0 1 = cc in let w : ⊥ = omega arith in absurd w
 under-zero (negsuc n) e = (n, refl)
 
@@ -40,24 +40,37 @@ up-fits : (w : Width) (k : ℕ) → k < 2 ^ hbits w → SFits w (sucℤ (negsuc 
 up-fits w zero h = record { sfits = h }
 up-fits w (suc k) h = record { sfits = omega arith }
 
--- that distance, as code of any width computes it
-module _ (w : Width) (z : ℤ) (k : ℕ) (f : SFits w z) (e : z ≡ negsuc k) where
-  pub small : k < 2 ^ hbits w
-  small = let g : SFits w (negsuc k) = subst (SFits w) e f in g .sfits
+-- a number as code of width w holds it: at or above 0 it is its size, below 0 its distance from -1 is computed
+abbrev held : Width → ℤ → ℤ
+held w z = toZ w (ofZ w z)
 
-  one-more : toZ w (ofZ w z) +ℤ pos 1 ≡ sucℤ (negsuc k)
-  one-more = ap (λ (y : ℤ). y +ℤ pos 1) (toZ-ofZ f ∙ e) ∙ +ℤ-one (negsuc k)
+pub record Above (w : Width) (z : ℤ) : Type 0 where
+  pub size : ℕ
+  pub is : z ≡ pos size
+  pub held-is : toZ w (ofZ w z) ≡ pos size
+  pub small : size < 2 ^ hbits w
 
+pub record Below (w : Width) (z : ℤ) : Type 0 where
+  pub distance : ℕ
+  pub is : z ≡ negsuc distance
+  pub small : distance < 2 ^ hbits w
   pub add-fits : SFits w (toZ w (ofZ w z) +ℤ pos 1)
-  add-fits = subst (SFits w) (sym one-more) (up-fits w k small)
-
-  distance : pos 0 -ℤ toZ w (ofZ w (toZ w (ofZ w z) +ℤ pos 1)) ≡ pos k
-  distance = ap (λ (y : ℤ). pos 0 -ℤ y) (toZ-ofZ add-fits ∙ one-more) ∙ next-up k
-
   pub sub-fits : SFits w (pos 0 -ℤ toZ w (ofZ w (toZ w (ofZ w z) +ℤ pos 1)))
-  sub-fits =
-      let g : SFits w (pos k) = record { sfits = small } in
-      subst (SFits w) (sym distance) g
+  pub held-is : toZ w (ofZ w (pos 0 -ℤ toZ w (ofZ w (toZ w (ofZ w z) +ℤ pos 1)))) ≡ pos distance
 
-  pub distance-is : toZ w (ofZ w (pos 0 -ℤ toZ w (ofZ w (toZ w (ofZ w z) +ℤ pos 1)))) ≡ pos k
-  distance-is = toZ-ofZ sub-fits ∙ distance
+pub above : (w : Width) (z : ℤ) → SFits w z → leZ (pos 0) (toZ w (ofZ w z)) ≡ true → Above w z
+above w z f t =
+    let (n, e) = from-zero z (ap (leZ (pos 0)) (sym (toZ-ofZ f)) ∙ t) in
+    let g : SFits w (pos n) = subst (SFits w) e f in
+    record { size = n; is = e; held-is = toZ-ofZ f ∙ e; small = g .sfits }
+
+pub below : (w : Width) (z : ℤ) → SFits w z → leZ (pos 0) (toZ w (ofZ w z)) ≡ false → Below w z
+below w z f t =
+    let (k, e) = under-zero z (ap (leZ (pos 0)) (sym (toZ-ofZ f)) ∙ t) in
+    let g : SFits w (negsuc k) = subst (SFits w) e f in
+    let one-more : held w z +ℤ pos 1 ≡ sucℤ (negsuc k) = ap (λ (y : ℤ). y +ℤ pos 1) (toZ-ofZ f ∙ e) ∙ +ℤ-one (negsuc k) in
+    let add : SFits w (held w z +ℤ pos 1) = subst (SFits w) (sym one-more) (up-fits w k (g .sfits)) in
+    let distance : pos 0 -ℤ held w (held w z +ℤ pos 1) ≡ pos k = ap (λ (y : ℤ). pos 0 -ℤ y) (toZ-ofZ add ∙ one-more) ∙ next-up k in
+    let size : SFits w (pos k) = record { sfits = g .sfits } in
+    let sub : SFits w (pos 0 -ℤ held w (held w z +ℤ pos 1)) = subst (SFits w) (sym distance) size in
+    record { distance = k; is = e; small = g .sfits; add-fits = add; sub-fits = sub; held-is = toZ-ofZ sub ∙ distance }

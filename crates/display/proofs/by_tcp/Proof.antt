@@ -5,7 +5,8 @@ use borrow.Author.Tests.{not-true, not-false}
 use borrow.Author.Needs.{needs}
 use Rattle.steps.specs.Messages.{Name}
 use Rattle.steps.specs.Addressing.{numberOf, byTcp}
-use Rattle.display.proofs.Links.{valid-count, valid-names}
+use Rattle.steps.proofs.Kept.{valid-names}
+use Rattle.display.proofs.Links.{valid-count}
 use Rattle.display.proofs.by_tcp.Statement.{statement}
 use Rattle.display.proofs.by_tcp.Tie as tie
 

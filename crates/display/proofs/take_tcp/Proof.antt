@@ -15,7 +15,8 @@ use Rattle.steps.specs.Addressing.{byTcp, target}
 use Rattle.steps.specs.Step.{withW, withPanels, panelAt, toNobody, door, turn, refused, step}
 use Rattle.steps.proofs.Door.{nobody-shut}
 use Rattle.steps.proofs.Refused.{by-tcp, too-small, no-such-panel}
-use Rattle.display.proofs.Links.{on-w, on-place, valid-names, names-length}
+use Rattle.steps.proofs.Kept.{valid-names}
+use Rattle.display.proofs.Links.{on-w, on-place, names-length}
 use Rattle.display.proofs.Stores.{steps, refuses, one-turn, tcp-bound}
 use mathlib.Core.List.{List}
 use Prim.Native.Nat.{ℕ}

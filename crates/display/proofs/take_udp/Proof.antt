@@ -17,7 +17,8 @@ use Rattle.display.specs.Promise.{Steps}
 use Rattle.display.specs.declared.Told.{Told}
 use Rattle.steps.proofs.Refused.{bad-udp}
 use Rattle.display.proofs.Calls.{uncalled, idle, refusing, broken, strange, obeyed}
-use Rattle.display.proofs.Links.{valid-count, valid-names}
+use Rattle.steps.proofs.Kept.{valid-names}
+use Rattle.display.proofs.Links.{valid-count}
 use Rattle.display.proofs.Stores.{steps, refuses}
 use Rattle.display.proofs.take_udp.Statement.{statement}
 use Rattle.display.proofs.take_udp.Tie as tie

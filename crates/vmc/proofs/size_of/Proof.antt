@@ -1,77 +1,32 @@
 -- `size_of`: a number from 0 up is its size, and one below 0 is one more than its distance from -1.
-use mathlib.Core.Path.{_≡_, sym, ap, subst, _∙_}
-use mathlib.Core.Bool.{true, false}
-use lib.IntN.{pos}
-use lib.Signed.{leZ}
+use mathlib.Core.Path.{sym, ap}
 use native.Mathlib.Omega.{arith}
 use mir.Syntax.{w8}
-use mir.Val.{toZ, ofZ, SFits}
-use mir.Facts.{toZ-ofZ}
-use Rattle.laws.proofs.Signed.{from-zero, under-zero, small, add-fits, sub-fits, distance-is}
+use Rattle.laws.proofs.Signed.{above, below}
 use Rattle.vmc.specs.Texts.{sizeOf}
 use Rattle.vmc.proofs.size_of.Statement.{statement}
 use Rattle.vmc.proofs.size_of.Tie as tie
 
 cast-result : tie.Need-cast-result
-cast-result c =
-    let z = c .before .args .z in
-    let f = c .before .fits .z in
-    let t : leZ (pos 0) z ≡ true = ap (leZ (pos 0)) (sym (toZ-ofZ f)) ∙ c .if1 .taken in
-    let (n, e) = from-zero z t in
-    let s : toZ w8 (ofZ w8 z) ≡ pos n = toZ-ofZ f ∙ e in
-    let g : SFits w8 (pos n) = subst (SFits w8) e f in
-    rw s (tt, record { fits = omega (arith, g .sfits) })
+cast-result c = let a = above w8 (c .before .args .z) (c .before .fits .z) (c .if1 .taken) in let s = a .small in rw (a .held-is) (tt, record { fits = omega arith })
 
 returns : tie.Need-returns
-returns c =
-    let z = c .before .args .z in
-    let f = c .before .fits .z in
-    let t : leZ (pos 0) z ≡ true = ap (leZ (pos 0)) (sym (toZ-ofZ f)) ∙ c .if1 .taken in
-    let (n, e) = from-zero z t in
-    let s : toZ w8 (ofZ w8 z) ≡ pos n = toZ-ofZ f ∙ e in
-    rw s (sym (ap sizeOf e))
+returns c = let a = above w8 (c .before .args .z) (c .before .fits .z) (c .if1 .taken) in rw (a .held-is) (sym (ap sizeOf (a .is)))
 
 add-y : tie.Need-add-y
-add-y c =
-    let z = c .before .args .z in
-    let f = c .before .fits .z in
-    let t : leZ (pos 0) z ≡ false = ap (leZ (pos 0)) (sym (toZ-ofZ f)) ∙ c .if1 .left in
-    let (k, e) = under-zero z t in
-    add-fits w8 z k f e
+add-y c = (below w8 (c .before .args .z) (c .before .fits .z) (c .if1 .left)) .add-fits
 
 sub-y : tie.Need-sub-y
-sub-y c =
-    let z = c .before .args .z in
-    let f = c .before .fits .z in
-    let t : leZ (pos 0) z ≡ false = ap (leZ (pos 0)) (sym (toZ-ofZ f)) ∙ c .if1 .left in
-    let (k, e) = under-zero z t in
-    sub-fits w8 z k f e
+sub-y c = (below w8 (c .before .args .z) (c .before .fits .z) (c .if1 .left)) .sub-fits
 
 cast-result-2 : tie.Need-cast-result-2
-cast-result-2 c =
-    let z = c .before .args .z in
-    let f = c .before .fits .z in
-    let t : leZ (pos 0) z ≡ false = ap (leZ (pos 0)) (sym (toZ-ofZ f)) ∙ c .if1 .left in
-    let (k, e) = under-zero z t in
-    let h = small w8 z k f e in
-    rw (distance-is w8 z k f e) (tt, record { fits = omega arith })
+cast-result-2 c = let a = below w8 (c .before .args .z) (c .before .fits .z) (c .if1 .left) in let s = a .small in rw (a .held-is) (tt, record { fits = omega arith })
 
 add-result : tie.Need-add-result
-add-result c =
-    let z = c .before .args .z in
-    let f = c .before .fits .z in
-    let t : leZ (pos 0) z ≡ false = ap (leZ (pos 0)) (sym (toZ-ofZ f)) ∙ c .if1 .left in
-    let (k, e) = under-zero z t in
-    let h = small w8 z k f e in
-    rw (distance-is w8 z k f e) (record { fits = omega arith })
+add-result c = let a = below w8 (c .before .args .z) (c .before .fits .z) (c .if1 .left) in let s = a .small in rw (a .held-is) (record { fits = omega arith })
 
 returns-2 : tie.Need-returns-2
-returns-2 c =
-    let z = c .before .args .z in
-    let f = c .before .fits .z in
-    let t : leZ (pos 0) z ≡ false = ap (leZ (pos 0)) (sym (toZ-ofZ f)) ∙ c .if1 .left in
-    let (k, e) = under-zero z t in
-    rw (distance-is w8 z k f e) (sym (ap sizeOf e))
+returns-2 c = let a = below w8 (c .before .args .z) (c .before .fits .z) (c .if1 .left) in rw (a .held-is) (sym (ap sizeOf (a .is)))
 
 pub size-of-spec : {M : Type 1} → statement M
 size-of-spec =
