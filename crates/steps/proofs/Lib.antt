@@ -7,6 +7,7 @@ pub mod Bench
 pub mod Door
 pub mod Finding
 pub mod Kept
+pub mod Numbered
 pub mod Refused
 pub mod Sound
 pub mod Standins
