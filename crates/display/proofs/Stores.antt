@@ -66,12 +66,12 @@ unfolding step
 one-turn b m t n d e h k = rw d (passed-store b m n (omega (arith, e, h)) (omega (arith, e, k)) ∙ ap (λ (j : ℕ). stored b m (j - 1)) e)
 
 -- a pair's number is that of a name
-number-bound : (n : ℕ) (ns : List Name) → (g u : ℕ) → addressing.numberOf (record { 0 = g }) (record { 0 = u }) (suc n) ns ≤ n + length ns
-unfolding addressing.numberOf
+number-bound : (n : ℕ) (ns : List Name) → (g u : ℕ) → addressing.pairNumber (record { 0 = g }) (record { 0 = u }) (suc n) ns ≤ n + length ns
+unfolding addressing.pairNumber
 number-bound n [] g u = omega arith
 number-bound n (x ∷ ns) g u = go (addressing.isPair (record { 0 = g }) (record { 0 = u }) x) (number-bound (suc n) ns g u)
   where
-    go : (c : Bool) → addressing.numberOf (record { 0 = g }) (record { 0 = u }) (suc (suc n)) ns ≤ suc n + length ns → cond c (suc n) (addressing.numberOf (record { 0 = g }) (record { 0 = u }) (suc (suc n)) ns) ≤ n + suc (length ns)
+    go : (c : Bool) → addressing.pairNumber (record { 0 = g }) (record { 0 = u }) (suc (suc n)) ns ≤ suc n + length ns → cond c (suc n) (addressing.pairNumber (record { 0 = g }) (record { 0 = u }) (suc (suc n)) ns) ≤ n + suc (length ns)
     go true r = omega arith
     go false r = omega arith
 
@@ -80,7 +80,7 @@ pub tcp-bound : (ns : List Name) (l : ℕ) (m : List ℕ) → l ≤ length ns �
 unfolding byTcp
 tcp-bound ns l m h = go (addressing.hasIds m) (eqb (getD m 6 0) 0 && eqb (getD m 7 0) 0) (isId (getD m 6 0) && isId (getD m 7 0)) (number-bound 0 ns (getD m 6 0) (getD m 7 0))
   where
-    go : (a z i : Bool) → addressing.numberOf (record { 0 = getD m 6 0 }) (record { 0 = getD m 7 0 }) 1 ns ≤ 0 + length ns → cond a (cond z l (cond i (addressing.numberOf (record { 0 = getD m 6 0 }) (record { 0 = getD m 7 0 }) 1 ns) 0)) 0 ≤ length ns
+    go : (a z i : Bool) → addressing.pairNumber (record { 0 = getD m 6 0 }) (record { 0 = getD m 7 0 }) 1 ns ≤ 0 + length ns → cond a (cond z l (cond i (addressing.pairNumber (record { 0 = getD m 6 0 }) (record { 0 = getD m 7 0 }) 1 ns) 0)) 0 ≤ length ns
     go true true i r = h
     go true false true r = omega arith
     go true false false r = omega arith

@@ -25,7 +25,7 @@ ghost use lib.ListN.{length, take, set};
 ghost use Rattle.laws.specs.Runs.{firstEach};
 ghost use Rattle.panels.specs.Valid.{valid};
 ghost use Rattle.steps.specs.Messages.{nameOf, names};
-ghost use Rattle.steps.specs.Addressing.{hasIds, isId, isPair, numberOf, byTcp, isCalled, anyCalled};
+ghost use Rattle.steps.specs.Addressing.{hasIds, isId, isPair, pairNumber, byTcp, isCalled, anyCalled};
 ghost use Rattle.steps.specs.Step.{withW, withK, withPanels, panelAt, toNobody};
 ghost use Rattle.steps.specs.Messages as messages;
 ghost use Rattle.display.specs.Promise.{Steps, isOn, heeded};
@@ -189,7 +189,7 @@ fn has_pair(p: Panel, g: GroupId, u: UnitId) -> bool
 // The number of the first of n panels with that pair; 0 where there is none.
 fn number_of_pair(ps: [Panel; 8], n: usize, g: GroupId, u: UnitId) -> usize
     requires { ⌜ n ≤ 8 ⌝ }
-    ensures { λ r. ⌜ r ≡ numberOf g u 1 (map nameOf (take n ps)) ⌝ }
+    ensures { λ r. ⌜ r ≡ pairNumber g u 1 (map nameOf (take n ps)) ⌝ }
 {
     let mut i = 0;
     while i < n {

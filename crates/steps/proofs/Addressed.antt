@@ -20,7 +20,7 @@ use Rattle.panels.specs.declared.Panel.{Panel}
 use Rattle.panels.specs.declared.DisplayBox.{DisplayBox}
 use Rattle.sdcp.specs.Packets.{front, isOurs, groupOf, unitOf}
 use Rattle.steps.specs.Messages.{rs232c, kjw, tcp, udp, Name, nobody, aW, aK, nameOf, names, isW}
-use Rattle.steps.specs.Addressing.{hasIds, isId, isPair, numberOf, byTcp, target, isCalled, addressed}
+use Rattle.steps.specs.Addressing.{hasIds, isId, isPair, pairNumber, byTcp, target, isCalled, addressed}
 use Rattle.steps.specs.Step.{panelAt}
 use Rattle.steps.proofs.Finding.{only-pair}
 use Rattle.steps.proofs.Kept.{valid-names, bad-names, in-use-name}
@@ -54,12 +54,12 @@ unfolding valid
 all-apart b v = and-second (leb 1 (b .count) && leb (b .count) 8 && every okPanel (inUse b)) (distinct (inUse b)) v
 
 -- in the names of every box: a bad box has none
-only-named : (b : DisplayBox) (g : GroupId) (u : UnitId) (i : ℕ) → eqb (numberOf g u 1 (names b)) (suc i) ≡ isPair g u (getD (names b) i nobody)
+only-named : (b : DisplayBox) (g : GroupId) (u : UnitId) (i : ℕ) → eqb (pairNumber g u 1 (names b)) (suc i) ≡ isPair g u (getD (names b) i nobody)
 unfolding distinct
 only-named b g u i = judge (valid b) refl
   where
     P : List Name → Type 0
-    P ns = eqb (numberOf g u 1 ns) (suc i) ≡ isPair g u (getD ns i nobody)
+    P ns = eqb (pairNumber g u 1 ns) (suc i) ≡ isPair g u (getD ns i nobody)
 
     judge : (v : Bool) → valid b ≡ v → P (names b)
     judge true v = subst P (sym (valid-names b v)) (only-pair g u 1 (inUse b) i (suc i) (omega arith) (omega arith) (all-apart b v))

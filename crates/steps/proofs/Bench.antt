@@ -203,5 +203,5 @@ more =
 
 -- and so is every one of these
 pub tried-more : map seen more ≡ map expected more
-unfolding configured asked askedAt valid okPanel okIds zeroIds okW okK okInput okInputs okBalance okGain okBias okShift share distinct nameOf names address.hasIds address.isPair address.numberOf address.byTcp address.target address.isCalled address.addressed toNobody door turn step heard.isForeign heard.isBroken sumOf heard.levelsCommand heard.commandOf heard.heardOf ones onesIn serial.frameOf serial.bytesOf serial.replyTo serial.turned serial.told letters.frameOf letters.lettersOf letters.nameOf frames.isInput frames.inputOrder frames.controlOf frames.isOurs frames.heardOf frames.turnOf frames.bytesOf frames.turned frames.met asks.isOurs asks.isBroken asks.heardOf number inBytes packets.packetOf packets.bytesOf packets.turned packets.told isDigit decimal inDigits ledBy words.carried words.toldOf readData readSet valueOrder levelOf isNumeral leadsZero textOf
+unfolding configured asked askedAt valid okPanel okIds zeroIds okW okK okInput okInputs okBalance okGain okBias okShift share distinct nameOf names address.hasIds address.isPair address.pairNumber address.byTcp address.target address.isCalled address.addressed toNobody door turn step heard.isForeign heard.isBroken sumOf heard.levelsCommand heard.commandOf heard.heardOf ones onesIn serial.frameOf serial.bytesOf serial.replyTo serial.turned serial.told letters.frameOf letters.lettersOf letters.nameOf frames.isInput frames.inputOrder frames.controlOf frames.isOurs frames.heardOf frames.turnOf frames.bytesOf frames.turned frames.met asks.isOurs asks.isBroken asks.heardOf number inBytes packets.packetOf packets.bytesOf packets.turned packets.told isDigit decimal inDigits ledBy words.carried words.toldOf readData readSet valueOrder levelOf isNumeral leadsZero textOf
 tried-more = refl

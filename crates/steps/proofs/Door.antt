@@ -20,7 +20,7 @@ use Rattle.panels.specs.declared.Panel.{Panel}
 use Rattle.panels.specs.declared.DisplayBox.{DisplayBox}
 use Rattle.sdcp.specs.Packets.{groupOf, unitOf}
 use Rattle.steps.specs.Messages.{Message, rs232c, kjw, tcp, udp, Name, nobody, aW, aK, names, onLink, isW, isK}
-use Rattle.steps.specs.Addressing.{hasIds, isId, isPair, byTcp, target, isCalled, addressed, numberOf as numberIn}
+use Rattle.steps.specs.Addressing.{hasIds, isId, isPair, byTcp, target, isCalled, addressed, pairNumber}
 use Rattle.steps.specs.Step.{lent, toNobody, door, turn, Outcome, panelAt, passed, refused, step}
 use Rattle.steps.proofs.Finding.{found}
 
@@ -87,7 +87,7 @@ unfolding byTcp
 tcp-w ns l m i w =
     choose P (hasIds m) _ 0 (λ a.
     choose P (eqb (groupOf m) 0 && eqb (unitOf m) 0) l _ (λ b e. link-is isW ns l i e w) (λ b.
-    choose P (isId (groupOf m) && isId (unitOf m)) (numberIn g u 1 ns) 0 (λ c e. pair-w g u (getD ns i nobody) (found g u 1 ns i (suc i) (omega arith) (omega arith) e)) (λ c. no)))
+    choose P (isId (groupOf m) && isId (unitOf m)) (pairNumber g u 1 ns) 0 (λ c e. pair-w g u (getD ns i nobody) (found g u 1 ns i (suc i) (omega arith) (omega arith) e)) (λ c. no)))
     (λ a. no)
   where
     g : GroupId

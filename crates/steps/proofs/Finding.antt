@@ -16,31 +16,31 @@ use Rattle.panels.specs.Records.{familyW, familyK}
 use Rattle.panels.specs.Valid.{share, apart, distinct}
 use Rattle.panels.specs.declared.Panel.{Panel}
 use Rattle.steps.specs.Messages.{Name, nobody, aW, aK, nameOf}
-use Rattle.steps.specs.Addressing.{isPair, numberOf}
+use Rattle.steps.specs.Addressing.{isPair, pairNumber}
 
 module _ (g : GroupId) (u : UnitId) where
   -- no number below the first is found
-  pub not-before : (n : ℕ) (ns : List Name) (j : ℕ) → 0 < j → j < n → eqb (numberOf g u n ns) j ≡ false
-  unfolding numberOf
+  pub not-before : (n : ℕ) (ns : List Name) (j : ℕ) → 0 < j → j < n → eqb (pairNumber g u n ns) j ≡ false
+  unfolding pairNumber
   not-before n [] j p q = ne-eqb 0 j (λ e. omega arith)
   not-before n (x ∷ ns) j p q = go (isPair g u x) (not-before (suc n) ns j p (omega arith))
     where
-      go : (b : Bool) → eqb (numberOf g u (suc n) ns) j ≡ false → eqb (cond b n (numberOf g u (suc n) ns)) j ≡ false
+      go : (b : Bool) → eqb (pairNumber g u (suc n) ns) j ≡ false → eqb (cond b n (pairNumber g u (suc n) ns)) j ≡ false
       go true r = ne-eqb n j (λ e. omega arith)
       go false r = r
 
   -- and the panel at the number found has the pair
-  pub found : (n : ℕ) (ns : List Name) (i j : ℕ) → 0 < n → j ≡ n + i → eqb (numberOf g u n ns) j ≡ true → isPair g u (getD ns i nobody) ≡ true
-  unfolding numberOf
+  pub found : (n : ℕ) (ns : List Name) (i j : ℕ) → 0 < n → j ≡ n + i → eqb (pairNumber g u n ns) j ≡ true → isPair g u (getD ns i nobody) ≡ true
+  unfolding pairNumber
   found n [] i j p q e = absurd (let z = eqb-true 0 j e in omega arith)
   found n (x ∷ ns) zero j p q e = go (isPair g u x) (not-before (suc n) ns j (omega arith) (omega arith)) e
     where
-      go : (b : Bool) → eqb (numberOf g u (suc n) ns) j ≡ false → eqb (cond b n (numberOf g u (suc n) ns)) j ≡ true → b ≡ true
+      go : (b : Bool) → eqb (pairNumber g u (suc n) ns) j ≡ false → eqb (cond b n (pairNumber g u (suc n) ns)) j ≡ true → b ≡ true
       go true r e = refl
       go false r e = absurd (false-true (cc))
   found n (x ∷ ns) (suc i) j p q e = go (isPair g u x) e (found (suc n) ns i j (omega arith) (omega arith))
     where
-      go : (b : Bool) → eqb (cond b n (numberOf g u (suc n) ns)) j ≡ true → (eqb (numberOf g u (suc n) ns) j ≡ true → isPair g u (getD ns i nobody) ≡ true) → isPair g u (getD ns i nobody) ≡ true
+      go : (b : Bool) → eqb (cond b n (pairNumber g u (suc n) ns)) j ≡ true → (eqb (pairNumber g u (suc n) ns) j ≡ true → isPair g u (getD ns i nobody) ≡ true) → isPair g u (getD ns i nobody) ≡ true
       go true e r = absurd (let z = eqb-true n j e in omega arith)
       go false e r = r e
 
@@ -64,16 +64,16 @@ no-other g u p (q ∷ ps) zero h e = sym (shares g u p q h) ∙ not-true (share 
 no-other g u p (q ∷ ps) (suc i) h e = no-other g u p ps i h (and-second (apart p q) (every (apart p) ps) e)
 
 -- the number found is that of the one panel with the pair
-pub only-pair : (g : GroupId) (u : UnitId) (n : ℕ) (ps : List Panel) (i j : ℕ) → 0 < n → j ≡ n + i → distinct ps ≡ true → eqb (numberOf g u n (map nameOf ps)) j ≡ isPair g u (getD (map nameOf ps) i nobody)
-unfolding numberOf isPair distinct
+pub only-pair : (g : GroupId) (u : UnitId) (n : ℕ) (ps : List Panel) (i j : ℕ) → 0 < n → j ≡ n + i → distinct ps ≡ true → eqb (pairNumber g u n (map nameOf ps)) j ≡ isPair g u (getD (map nameOf ps) i nobody)
+unfolding pairNumber isPair distinct
 only-pair g u n [] i j h e d = ne-eqb 0 j (λ z. omega arith)
 only-pair g u n (p ∷ ps) zero j h e d = go (isPair g u (nameOf p))
   where
-    go : (t : Bool) → eqb (cond t n (numberOf g u (suc n) (map nameOf ps))) j ≡ t
+    go : (t : Bool) → eqb (cond t n (pairNumber g u (suc n) (map nameOf ps))) j ≡ t
     go true = eq-eqb n j (omega arith)
     go false = not-before g u (suc n) (map nameOf ps) j (omega arith) (omega arith)
 only-pair g u n (p ∷ ps) (suc i) j h e d = go (isPair g u (nameOf p)) refl (only-pair g u (suc n) ps i j (omega arith) (omega arith) (and-second (every (apart p) ps) (distinct ps) d))
   where
-    go : (t : Bool) → isPair g u (nameOf p) ≡ t → eqb (numberOf g u (suc n) (map nameOf ps)) j ≡ isPair g u (getD (map nameOf ps) i nobody) → eqb (cond t n (numberOf g u (suc n) (map nameOf ps))) j ≡ isPair g u (getD (map nameOf ps) i nobody)
+    go : (t : Bool) → isPair g u (nameOf p) ≡ t → eqb (pairNumber g u (suc n) (map nameOf ps)) j ≡ isPair g u (getD (map nameOf ps) i nobody) → eqb (cond t n (pairNumber g u (suc n) (map nameOf ps))) j ≡ isPair g u (getD (map nameOf ps) i nobody)
     go true t r = ne-eqb n j (λ z. omega arith) ∙ sym (no-other g u p ps i t (and-first (every (apart p) ps) (distinct ps) d))
     go false t r = r

@@ -10,7 +10,7 @@ use borrow.Author.Tests.{eqb-true, ltb-false}
 use Rattle.laws.specs.Runs.{each}
 use Rattle.laws.proofs.Conditions.{choose, false-true, passed as rung}
 use Rattle.laws.proofs.Runs.{each-at}
-use Rattle.terms.specs.Answers as answers
+use Rattle.terms.specs.Answers.{numberOf}
 use Rattle.terms.specs.declared.Answer.{Answer}
 use Rattle.terms.specs.declared.Answer.the-variants.{Done, AreaTooSmall, NoSuchPanel, WrongLength, NotForUs, EnvelopeWrong, NotUnderstood, BadConfiguration}
 use Rattle.terms.specs.declared.GroupId.{GroupId}
@@ -25,7 +25,7 @@ use Rattle.sdcp.specs.Replies as packets
 use Rattle.sdcp.specs.declared.Heard.{Heard}
 use Rattle.sdcp.specs.declared.Heard.the-variants.{Refused, Broken, Strange, Understood}
 use Rattle.steps.specs.Messages.{Message, rs232c, kjw, tcp, udp, Name, nobody, nameOf, names, onLink, isW, isK}
-use Rattle.steps.specs.Addressing.{hasIds, isId, isPair, numberOf, byTcp, target, isCalled, addressed}
+use Rattle.steps.specs.Addressing.{hasIds, isId, isPair, pairNumber, byTcp, target, isCalled, addressed}
 use Rattle.steps.specs.Step.{lent, door, Turn, turn, backOn, back, Outcome, panelAt, ownTurn, answerTo, passed, refused, through, step}
 
 -- a message comes to the panel at place i: it passes the checks before the panels, and is addressed to that place
@@ -46,12 +46,12 @@ inside [] i f n e = absurd (false-true (sym n ∙ e))
 inside (x ∷ ns) zero f n e = omega arith
 inside (x ∷ ns) (suc i) f n e = let h = inside ns i f n e in omega arith
 
-number-inside : (g : GroupId) (u : UnitId) (n : ℕ) (ns : List Name) (i : ℕ) → numberOf g u (suc n) ns ≡ suc i → i < n + length ns
-unfolding numberOf
+number-inside : (g : GroupId) (u : UnitId) (n : ℕ) (ns : List Name) (i : ℕ) → pairNumber g u (suc n) ns ≡ suc i → i < n + length ns
+unfolding pairNumber
 number-inside g u n [] i e = absurd (omega arith)
 number-inside g u n (x ∷ ns) i e = go (isPair g u x) e (number-inside g u (suc n) ns i)
   where
-    go : (c : Bool) → cond c (suc n) (numberOf g u (suc (suc n)) ns) ≡ suc i → (numberOf g u (suc (suc n)) ns ≡ suc i → i < suc n + length ns) → i < n + suc (length ns)
+    go : (c : Bool) → cond c (suc n) (pairNumber g u (suc (suc n)) ns) ≡ suc i → (pairNumber g u (suc (suc n)) ns ≡ suc i → i < suc n + length ns) → i < n + suc (length ns)
     go true e h = omega arith
     go false e h = let k = h e in omega arith
 
@@ -65,7 +65,7 @@ unfolding byTcp
 tcp-inside ns l i m w = go (hasIds m) (eqb (groupOf m) 0 && eqb (unitOf m) 0) (isId (groupOf m) && isId (unitOf m))
   where
     found : ℕ
-    found = numberOf (record { 0 = groupOf m }) (record { 0 = unitOf m }) 1 ns
+    found = pairNumber (record { 0 = groupOf m }) (record { 0 = unitOf m }) 1 ns
 
     go : (x y z : Bool) → cond x (cond y l (cond z found 0)) 0 ≡ suc i → i < length ns
     go false y z e = absurd (omega arith)
@@ -80,12 +80,12 @@ pub record Lent (area : List ℕ) (fits : Bool) : Type 0 where
 
 lent-passed : (area : List ℕ) (fits : Bool) (rest : Answer) → lent area fits rest ≡ Done → Lent area fits
 lent-passed area fits rest e =
-    let t = rung (ltb (length area) 512) AreaTooSmall (cond fits rest NoSuchPanel) Done (λ q. let z : _≡_ {A = ℕ} 1 0 = ap answers.numberOf q in omega arith) e in
+    let t = rung (ltb (length area) 512) AreaTooSmall (cond fits rest NoSuchPanel) Done (λ q. let z : _≡_ {A = ℕ} 1 0 = ap numberOf q in omega arith) e in
     record { room = ltb-false (length area) 512 (t .0); link-fits = go fits (t .1) }
   where
     go : (f : Bool) → cond f rest NoSuchPanel ≡ Done → f ≡ true
     go true q = refl
-    go false q = absurd (let z : _≡_ {A = ℕ} 2 0 = ap answers.numberOf q in omega arith)
+    go false q = absurd (let z : _≡_ {A = ℕ} 2 0 = ap numberOf q in omega arith)
 
 -- a message with a link that comes to a panel: its area has room, and its link is of the family
 abbrev pub Door : List Name → Message → Type 0
@@ -202,7 +202,7 @@ module _ (P : Panel → Type 0) where
   pub either : (b : DisplayBox) (m : Message) (i : ℕ) → P (panelAt i b) → P (turn m (panelAt i b) .panel) → P (panelAt i (step b m .box))
   unfolding step
   either b m i p q =
-      choose (λ (o : Outcome). P (panelAt i (o .box))) (eqb (answers.numberOf (door (names b) m)) 0) (passed (names b) b m) (refused b m (door (names b) m))
+      choose (λ (o : Outcome). P (panelAt i (o .box))) (eqb (numberOf (door (names b) m)) 0) (passed (names b) b m) (refused b m (door (names b) m))
       (λ e. each-either (addressed (names b) m) (λ (x : Panel). turn m x .panel) (b .panels) i pastEnd p q) (λ e. p)
 
 each-left : (called : ℕ → Bool) (f : Panel → Panel) (l : List Panel) (i : ℕ) (d : Panel) → called i ≡ false → getD (each called f l) i d ≡ getD l i d
@@ -214,5 +214,5 @@ each-left called f (x ∷ l) (suc i) d n = each-left (λ (j : ℕ). called (suc 
 pub left : (b : DisplayBox) (m : Message) (i : ℕ) → addressed (names b) m i ≡ false → panelAt i (step b m .box) ≡ panelAt i b
 unfolding step
 left b m i n =
-    choose (λ (o : Outcome). panelAt i (o .box) ≡ panelAt i b) (eqb (answers.numberOf (door (names b) m)) 0) (passed (names b) b m) (refused b m (door (names b) m))
+    choose (λ (o : Outcome). panelAt i (o .box) ≡ panelAt i b) (eqb (numberOf (door (names b) m)) 0) (passed (names b) b m) (refused b m (door (names b) m))
     (λ e. each-left (addressed (names b) m) (λ (x : Panel). turn m x .panel) (b .panels) i pastEnd n) (λ e. refl)

@@ -28,7 +28,7 @@ use Rattle.kjw.specs.Rules as frames
 use Rattle.sdcp.specs.Packets as packetForms
 use Rattle.sdcp.specs.Replies as packets
 use Rattle.steps.specs.Messages.{Message, rs232c, kjw, tcp, udp, nameOf, names}
-use Rattle.steps.specs.Addressing.{hasIds, isPair, numberOf, byTcp, target, isCalled, addressed}
+use Rattle.steps.specs.Addressing.{hasIds, isPair, pairNumber, byTcp, target, isCalled, addressed}
 use Rattle.steps.specs.Step.{door, turn, backOn, nothing, panelAt, step}
 use Rattle.steps.specs.Run.{run, kept, replies}
 use Rattle.steps.proofs.Alone.{demand-3-configured}
@@ -81,7 +81,7 @@ accepted = refl
 
 -- what each run keeps for panel 2, at place 1
 kept-of : (kept 1 (names start) one ≡ call ∷ ask ∷ all ∷ remote ∷ []) × (kept 1 (names start) two ≡ call ∷ ask ∷ all ∷ remote ∷ [])
-unfolding configured asked askedAt rules.valid rules.okPanel rules.okIds rules.zeroIds rules.okW rules.okK rules.okInput rules.okInputs rules.okBalance rules.okGain rules.okBias rules.okShift rules.share rules.distinct nameOf names packetForms.isOurs hasIds isPair numberOf byTcp target isCalled addressed
+unfolding configured asked askedAt rules.valid rules.okPanel rules.okIds rules.zeroIds rules.okW rules.okK rules.okInput rules.okInputs rules.okBalance rules.okGain rules.okBias rules.okShift rules.share rules.distinct nameOf names packetForms.isOurs hasIds isPair pairNumber byTcp target isCalled addressed
 kept-of = (refl, refl)
 
 pub kept-alike : kept 1 (names start) one ≡ kept 1 (names start) two
@@ -93,7 +93,7 @@ volume i b = getD (panelAt i b .w .settings) 2 0
 
 -- panel 1's volume at the two ends, and what panel 2 heard: nothing by UDP, "VOLUME 40", and REMOTE OFF
 ends : (volume 0 (run start one) ≡ 99) × (volume 0 (run start two) ≡ 40) × (replies 1 start one ≡ nothing ∷ backOn room told-40 ∷ nothing ∷ backOn room told-off ∷ [])
-unfolding configured asked askedAt rules.valid rules.okPanel rules.okIds rules.zeroIds rules.okW rules.okK rules.okInput rules.okInputs rules.okBalance rules.okGain rules.okBias rules.okShift rules.share rules.distinct nameOf names packetForms.isOurs hasIds isPair numberOf byTcp target isCalled addressed door turn step packets.told packets.turned packets.bytesOf packets.packetOf packetForms.heardOf packetForms.isBroken number inBytes orders.carried orders.toldOf reading.readData reading.readSet reading.readGet reading.valueOrder reading.levelOf reading.isNumeral reading.leadsZero texts.textOf texts.setWords texts.valueWords decimals.isDigit decimals.decimal decimals.inDigits decimals.numeral words.namedBy words.ledBy words.chosenBy frameForms.lettersOf frameForms.nameOf frames.met frames.turned frames.turnOf frames.heardOf frames.isOurs frames.controlOf frames.upTo frames.switchOf frames.carried serial.told serial.turned serial.replyTo serial.bytesOf serial.frameOf serialForms.heardOf serialForms.isForeign serialForms.isBroken serialForms.commandOf serialOrders.carried sumOf
+unfolding configured asked askedAt rules.valid rules.okPanel rules.okIds rules.zeroIds rules.okW rules.okK rules.okInput rules.okInputs rules.okBalance rules.okGain rules.okBias rules.okShift rules.share rules.distinct nameOf names packetForms.isOurs hasIds isPair pairNumber byTcp target isCalled addressed door turn step packets.told packets.turned packets.bytesOf packets.packetOf packetForms.heardOf packetForms.isBroken number inBytes orders.carried orders.toldOf reading.readData reading.readSet reading.readGet reading.valueOrder reading.levelOf reading.isNumeral reading.leadsZero texts.textOf texts.setWords texts.valueWords decimals.isDigit decimals.decimal decimals.inDigits decimals.numeral words.namedBy words.ledBy words.chosenBy frameForms.lettersOf frameForms.nameOf frames.met frames.turned frames.turnOf frames.heardOf frames.isOurs frames.controlOf frames.upTo frames.switchOf frames.carried serial.told serial.turned serial.replyTo serial.bytesOf serial.frameOf serialForms.heardOf serialForms.isForeign serialForms.isBroken serialForms.commandOf serialOrders.carried sumOf
 ends = (refl, refl, refl)
 
 pub differ : run start one ≡ run start two → ⊥

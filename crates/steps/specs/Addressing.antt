@@ -24,16 +24,16 @@ isPair g u (aW g′ u′) = eqb (g .0) (g′ .0) && eqb (u .0) (u′ .0)
 isPair g u aK = false
 
 -- the number of the first panel with the pair, counted from n; 0 where there is none
-unfoldable pub numberOf : GroupId → UnitId → ℕ → List Name → ℕ
-numberOf g u n [] = 0
-numberOf g u n (x ∷ xs) = cond (isPair g u x) n (numberOf g u (suc n) xs)
+unfoldable pub pairNumber : GroupId → UnitId → ℕ → List Name → ℕ
+pairNumber g u n [] = 0
+pairNumber g u n (x ∷ xs) = cond (isPair g u x) n (pairNumber g u (suc n) xs)
 
 -- "TCP: 0/0 is the link's own panel; 1..99/1..99 is the W panel with that pair. [..] All else addresses nobody."
 unfoldable pub byTcp : List Name → ℕ → List ℕ → ℕ
 byTcp ns l m =
     cond (hasIds m)
     (cond (eqb (groupOf m) 0 && eqb (unitOf m) 0) l
-    (cond (isId (groupOf m) && isId (unitOf m)) (numberOf (record { 0 = groupOf m }) (record { 0 = unitOf m }) 1 ns) 0))
+    (cond (isId (groupOf m) && isId (unitOf m)) (pairNumber (record { 0 = groupOf m }) (record { 0 = unitOf m }) 1 ns) 0))
     0
 
 -- the number of the one panel that a message with a link addresses, 0 for nobody: "An RS-232C or KJW message is addressed to the

@@ -4,7 +4,7 @@ use mathlib.Core.List.{List}
 use borrow.Author.Tests.{not-true, not-false}
 use borrow.Author.Needs.{needs}
 use Rattle.steps.specs.Messages.{Name}
-use Rattle.steps.specs.Addressing.{numberOf, byTcp}
+use Rattle.steps.specs.Addressing.{pairNumber, byTcp}
 use Rattle.steps.proofs.Kept.{valid-names}
 use Rattle.display.proofs.Links.{valid-count}
 use Rattle.display.proofs.by_tcp.Statement.{statement}
@@ -45,7 +45,7 @@ unfolding byTcp
 returns-4 c =
     let x = c .before .before .before .before .before .before .before .before .before .before .before in
     c .number-of-pair .ensures
-    ∙ ap (λ (ns : List Name). numberOf (record { 0 = c .before .before .before .before .before .before .before .byte-at .result }) (record { 0 = c .before .before .before .before .before .before .byte-at2 .result }) 1 ns) (sym (valid-names (x .args .b) (x .pre)))
+    ∙ ap (λ (ns : List Name). pairNumber (record { 0 = c .before .before .before .before .before .before .before .byte-at .result }) (record { 0 = c .before .before .before .before .before .before .byte-at2 .result }) 1 ns) (sym (valid-names (x .args .b) (x .pre)))
     ∙ sym (rw (← c .before .before .before .before .before .before .before .before .before .has-ids .ensures, not-false (c .before .before .before .before .before .before .before .before .before .has-ids .result) (c .before .before .before .before .before .before .before .before .if1 .left), ← c .before .before .before .before .before .before .before .byte-at .ensures, ← c .before .before .before .before .before .before .byte-at2 .ensures, ← c .before .before .before .before .before .both-zero .ensures, c .before .before .before .before .if2 .left, ← c .before .before .before .both-ids .ensures, not-false (c .before .before .before .both-ids .result) (c .before .before .if3 .left)))
 
 pub by-tcp-spec : {M : Type 1} → statement M

@@ -7,13 +7,13 @@ use borrow.Author.Needs.{needs}
 use native.Mathlib.Omega.{arith}
 use native.Mathlib.Numerals.{add-one}
 use Rattle.steps.specs.Messages.{nameOf}
-use Rattle.steps.specs.Addressing.{numberOf}
+use Rattle.steps.specs.Addressing.{pairNumber}
 use Rattle.display.proofs.Links.{names-from, names-behind}
 use Rattle.display.proofs.number_of_pair.Statement.{statement}
 use Rattle.display.proofs.number_of_pair.Tie as tie
 
 abbrev Inv-loop : tie.InvT-loop
-Inv-loop n g u ps i₀ i = (i ≤ n) × ((length ps ≡ 8) × (numberOf g u 1 (map nameOf (take n ps)) ≡ numberOf g u (suc i) (drop i (map nameOf (take n ps)))))
+Inv-loop n g u ps i₀ i = (i ≤ n) × ((length ps ≡ 8) × (pairNumber g u 1 (map nameOf (take n ps)) ≡ pairNumber g u (suc i) (drop i (map nameOf (take n ps)))))
 
 abbrev μ-loop : tie.MeasureT-loop
 μ-loop n g u ps i₀ i = n - i
@@ -34,11 +34,11 @@ add-result : tie.Need-add-result Inv-loop μ-loop
 add-result c = omega arith
 
 returns : tie.Need-returns Inv-loop μ-loop
-unfolding numberOf
+unfolding pairNumber
 returns c =
     let l = c .before .before .before .before in
     let x = l .before in
-    sym (l .loop .inv .1 .1 ∙ ap (numberOf (x .args .g) (x .args .u) (suc (l .loop .i))) (names-from (x .args .t1) (x .args .n) (l .loop .i) (c .before .before .before .loop-test .taken) (omega arith)) ∙ rw (← c .before .has-pair .ensures, c .if1 .taken) (sym (add-one (l .loop .i))))
+    sym (l .loop .inv .1 .1 ∙ ap (pairNumber (x .args .g) (x .args .u) (suc (l .loop .i))) (names-from (x .args .t1) (x .args .n) (l .loop .i) (c .before .before .before .loop-test .taken) (omega arith)) ∙ rw (← c .before .has-pair .ensures, c .if1 .taken) (sym (add-one (l .loop .i))))
 
 add-i : tie.Need-add-i Inv-loop μ-loop
 add-i c = omega arith
@@ -47,18 +47,18 @@ loop-less : tie.Need-loop-less Inv-loop μ-loop
 loop-less c = omega arith
 
 loop-again : tie.Need-loop-again Inv-loop μ-loop
-unfolding numberOf
+unfolding pairNumber
 loop-again c =
     let l = c .before .before .before .before in
     let x = l .before in
-    (omega arith, (l .loop .inv .1 .0, l .loop .inv .1 .1 ∙ ap (numberOf (x .args .g) (x .args .u) (suc (l .loop .i))) (names-from (x .args .t1) (x .args .n) (l .loop .i) (c .before .before .before .loop-test .taken) (omega arith)) ∙ rw (← c .before .has-pair .ensures, c .if1 .left, add-one)))
+    (omega arith, (l .loop .inv .1 .0, l .loop .inv .1 .1 ∙ ap (pairNumber (x .args .g) (x .args .u) (suc (l .loop .i))) (names-from (x .args .t1) (x .args .n) (l .loop .i) (c .before .before .before .loop-test .taken) (omega arith)) ∙ rw (← c .before .has-pair .ensures, c .if1 .left, add-one)))
 
 returns-2 : tie.Need-returns-2 Inv-loop μ-loop
-unfolding numberOf
+unfolding pairNumber
 returns-2 c =
     let l = c .before in
     let x = l .before in
-    sym (l .loop .inv .1 .1 ∙ ap (numberOf (x .args .g) (x .args .u) (suc (l .loop .i))) (names-behind (x .args .t1) (x .args .n) (l .loop .i) (omega arith)))
+    sym (l .loop .inv .1 .1 ∙ ap (pairNumber (x .args .g) (x .args .u) (suc (l .loop .i))) (names-behind (x .args .t1) (x .args .n) (l .loop .i) (omega arith)))
 
 pub number-of-pair-spec : {M : Type 1} → statement M
 number-of-pair-spec =
