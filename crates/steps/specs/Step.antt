@@ -53,8 +53,8 @@ pub record Turn : Type 0 where
   pub answer : Answer
   pub reply : List ℕ
 
-abbrev pub serialTurn : List ℕ → Panel → serial.Turn → Turn
-serialTurn m p t = record { panel = withW p (t .after); answer = t .answer; reply = serial.bytesOf (t .reply) }
+abbrev pub serialTurn : Panel → serial.Turn → Turn
+serialTurn p t = record { panel = withW p (t .after); answer = t .answer; reply = serial.bytesOf (t .reply) }
 
 abbrev pub frameTurn : Panel → frames.Outcome → Turn
 frameTurn p t = record { panel = withK p (t .k); answer = t .answer; reply = t .reply }
@@ -63,7 +63,7 @@ abbrev pub packetTurn : List ℕ → Panel → packets.Turn → Turn
 packetTurn m p t = record { panel = withW p (t .after); answer = t .answer; reply = packets.bytesOf m (t .reply) }
 
 unfoldable pub turn : Message → Panel → Turn
-turn (rs232c l m area) p = serialTurn m p (serial.told (length area) m (p .w))
+turn (rs232c l m area) p = serialTurn p (serial.told (length area) m (p .w))
 turn (kjw l m area) p = frameTurn p (frames.met (length area) m (p .k))
 turn (tcp l m area) p = packetTurn m p (packets.told (length area) m (p .w))
 turn (udp m) p = packetTurn m p (packets.turned (heardOf m) (p .w))
