@@ -30,7 +30,7 @@ withK p k = record { family = p .family; group = p .group; unit = p .unit; spare
 abbrev pub withPanels : DisplayBox → List Panel → DisplayBox
 withPanels b ps = record { count = b .count; panels = ps }
 
--- ---- checks 1, 2 and 4, from the names and the message alone; Done where they are passed
+-- ---- checks 1 and 2, and 3 or 4 where nobody is addressed, from the names and the message alone; Done where they are passed
 
 -- "1 reply area under 512 bytes", "2 no panel with that link number, or it is of the other family"
 abbrev pub lent : List ℕ → Bool → Answer → Answer
