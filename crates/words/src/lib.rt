@@ -183,12 +183,13 @@ fn row_begins(s: &[u8], row: usize, n: usize) -> bool
     requires { ⌜ (row < 32) × (n ≤ length (textOf row)) ⌝ }
     ensures { λ r. ⌜ r ≡ begins (take n (textOf row)) (now (s .entry)) ⌝ }
 {
+    let texts = &TEXTS;
     let mut j = 0;
     while j < n {
         if s.len() <= j {
             return false;
         }
-        if TEXTS[row * 13 + j] != s[j] {
+        if texts[row * 13 + j] != s[j] {
             return false;
         }
         j += 1;
