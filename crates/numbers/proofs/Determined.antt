@@ -1,8 +1,9 @@
 -- Each promise at the door allows one outcome: its equations have the same right sides.
 use mathlib.Core.Path.{_≡_, sym, _∙_}
 use mathlib.Core.List.{List}
-use Prim.Native.Nat.{ℕ}
+use Prim.Native.Nat.{ℕ, _+_, _/_, _%_, _^_}
 use Rattle.numbers.specs.Decimals.{inDigits, numberOf, spelled}
+use Rattle.numbers.specs.Plain.{width}
 use Rattle.numbers.specs.declared.Number.{Number}
 use Rattle.numbers.specs.declared.Numeral.{Numeral}
 
@@ -14,3 +15,9 @@ digits4-one v r r′ e f = e ∙ sym f
 
 pub numeral-of-one : (v : ℕ) (r r′ : Numeral) → r ≡ spelled v → r′ ≡ spelled v → r ≡ r′
 numeral-of-one v r r′ e f = e ∙ sym f
+
+pub width-of-one : (v r r′ : ℕ) → r ≡ width v → r′ ≡ width v → r ≡ r′
+width-of-one v r r′ e f = e ∙ sym f
+
+pub digit-at-one : (v n r r′ : ℕ) → r ≡ 0x30 + v / 10 ^ n % 10 → r′ ≡ 0x30 + v / 10 ^ n % 10 → r ≡ r′
+digit-at-one v n r r′ e f = e ∙ sym f
