@@ -4,7 +4,7 @@ ghost use mathlib.Core.Bool.{true};
 ghost use Prim.Native.Nat.{_+_, _/_, _%_, _^_, _≤_};
 ghost use lib.ListN.{length};
 ghost use Rattle.laws.specs.Lists.{every};
-ghost use Rattle.numbers.specs.Decimals.{isDigit, decimal, inDigits, numberOf, spelled};
+ghost use Rattle.numbers.specs.Decimals.{isDigit, decimal, inDigits, numberOf, leadsZero, upTo, spelled};
 ghost use Rattle.numbers.specs.Plain.{width};
 
 // The number that a text writes, if it writes one.
@@ -72,6 +72,32 @@ pub fn number_of(p: &[u8]) -> Number
         return Number::Not;
     }
     Number::Is(number_in(p))
+}
+
+// A leading zero: `0` alone has none.
+fn leads_zero(s: &[u8]) -> bool
+    ensures { λ r. ⌜ r ≡ leadsZero (now (s .entry)) ⌝ }
+{
+    if s.len() < 2 {
+        return false;
+    }
+    s[0] == b'0'
+}
+
+// A number without sign or leading zero, up to a most. One of more than sixteen digits is over any most.
+pub fn plain_number(s: &[u8], most: u32) -> Number
+    ensures { λ r. ⌜ r ≡ upTo most (now (s .entry)) ⌝ }
+{
+    if leads_zero(s) {
+        return Number::Not;
+    }
+    let Number::Is(v) = number_of(s) else {
+        return Number::Not;
+    };
+    if (most as u64) < v {
+        return Number::Not;
+    }
+    Number::Is(v)
 }
 
 // The last four digits of a number.
