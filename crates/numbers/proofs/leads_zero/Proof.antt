@@ -1,5 +1,5 @@
 -- `leads_zero` asks the length, then the first byte.
-use mathlib.Core.Path.{sym, _∙_}
+use mathlib.Core.Path.{sym}
 use borrow.Author.Needs.{needs}
 use Rattle.numbers.proofs.Plain.{short-no-lead, long-lead}
 use Rattle.numbers.proofs.leads_zero.Statement.{statement}

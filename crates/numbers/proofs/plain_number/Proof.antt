@@ -1,5 +1,5 @@
 -- `plain_number` turns down a leading zero, asks the rest of the number reader, and cuts what it read at the most.
-use mathlib.Core.Path.{_≡_, sym, ap, _∙_}
+use mathlib.Core.Path.{sym, ap, _∙_}
 use borrow.Author.Tests.{lt-leb, le-leb}
 use borrow.Author.Needs.{needs}
 use native.Mathlib.Omega.{arith}
