@@ -94,10 +94,25 @@ pub words-behind : (s : List ℕ) (i : ℕ) → length s ≤ i → words (drop i
 unfolding words
 words-behind s i h = rw (behind s i h)
 
+-- the words behind a space, and behind the end of a line
+pub behind-space : (line : List ℕ) (e : ℕ) → e < length line → getD line e 0 ≡ 0x20 → drop 1 (words (drop e line)) ≡ words (drop (e + 1) line)
+unfolding words
+behind-space line e h q = rw (from line e 0 h, eq-eqb (getD line e 0) 0x20 q)
+
+pub behind-line : (line : List ℕ) (e : ℕ) → length line ≤ e → drop 1 (words (drop e line)) ≡ []
+behind-line line e h = ap (drop 1) (words-behind line e h)
+
 -- ---- a word that starts at a place of a line and ends at e
 
 abbrev pub Ends : List ℕ → ℕ → ℕ → Type 0
 Ends line at e = e ≡ at + length (before 0x20 (drop at line))
+
+word-next : (line : List ℕ) (at n m : ℕ) → n ≡ suc m → getD (words (drop at line)) n [] ≡ getD (drop 1 (words (drop at line))) m []
+word-next line at n m e = ap (λ (j : ℕ). getD (words (drop at line)) j []) e ∙ ap (λ (ws : List (List ℕ)). getD ws (suc m) []) (words-first (drop at line))
+
+-- no word is left to pass
+pub word-here : (line : List ℕ) (at n : ℕ) → n ≡ 0 → getD (words (drop at line)) n [] ≡ before 0x20 (drop at line)
+word-here line at n e = ap (λ (j : ℕ). getD (words (drop at line)) j []) e ∙ ap (λ (ws : List (List ℕ)). getD ws 0 []) (words-first (drop at line))
 
 module _ (line : List ℕ) (at e : ℕ) (end : Ends line at e) where
   -- it is the part between the two
@@ -110,22 +125,18 @@ module _ (line : List ℕ) (at e : ℕ) (end : Ends line at e) where
   pub word-stop : e < length line → getD line e 0 ≡ 0x20
   word-stop h =
       let l = length-drop at line in
-      ap (λ (j : ℕ). getD line j 0) end ∙ sym (getD-drop at line (length (before 0x20 (drop at line))) 0) ∙ before-stop 0x20 (drop at line) (omega arith)
+      ap (λ (j : ℕ). getD line j 0) end
+      ∙ sym (getD-drop at line (length (before 0x20 (drop at line))) 0)
+      ∙ before-stop 0x20 (drop at line) (omega arith)
 
   pub word-rest : drop 1 (words (drop at line)) ≡ drop 1 (words (drop e line))
-  word-rest = words-rest (drop at line) ∙ ap (λ (t : List ℕ). drop 1 (words t)) (drop-drop (length (before 0x20 (drop at line))) at line ∙ ap (λ (j : ℕ). drop j line) (sym end))
+  word-rest =
+      words-rest (drop at line)
+      ∙ ap (λ (t : List ℕ). drop 1 (words t)) (drop-drop (length (before 0x20 (drop at line))) at line ∙ ap (λ (j : ℕ). drop j line) (sym end))
 
--- the words behind a space, and behind the end of a line
-pub behind-space : (line : List ℕ) (e : ℕ) → e < length line → getD line e 0 ≡ 0x20 → drop 1 (words (drop e line)) ≡ words (drop (e + 1) line)
-unfolding words
-behind-space line e h q = rw (from line e 0 h, eq-eqb (getD line e 0) 0x20 q)
+  -- it is passed: behind it the line has no more words, or one less to pass
+  pub word-last : (n m : ℕ) → n ≡ suc m → length line ≤ e → getD (words (drop at line)) n [] ≡ []
+  word-last n m q h = word-next line at n m q ∙ ap (λ (ws : List (List ℕ)). getD ws m []) (word-rest ∙ behind-line line e h)
 
-pub behind-line : (line : List ℕ) (e : ℕ) → length line ≤ e → drop 1 (words (drop e line)) ≡ []
-behind-line line e h = ap (drop 1) (words-behind line e h)
-
--- the word at a place, when i of k words were passed
-pub word-here : (line : List ℕ) (at n : ℕ) → n ≡ 0 → getD (words (drop at line)) n [] ≡ before 0x20 (drop at line)
-word-here line at n e = ap (λ (j : ℕ). getD (words (drop at line)) j []) e ∙ ap (λ (ws : List (List ℕ)). getD ws 0 []) (words-first (drop at line))
-
-pub word-next : (line : List ℕ) (at n m : ℕ) → n ≡ suc m → getD (words (drop at line)) n [] ≡ getD (drop 1 (words (drop at line))) m []
-word-next line at n m e = ap (λ (j : ℕ). getD (words (drop at line)) j []) e ∙ ap (λ (ws : List (List ℕ)). getD ws (suc m) []) (words-first (drop at line))
+  pub word-passed : (n m : ℕ) → n ≡ suc m → e < length line → getD (words (drop at line)) n [] ≡ getD (words (drop (e + 1) line)) m []
+  word-passed n m q h = word-next line at n m q ∙ ap (λ (ws : List (List ℕ)). getD ws m []) (word-rest ∙ behind-space line e h (word-stop h))

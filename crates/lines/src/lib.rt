@@ -396,7 +396,7 @@ fn linked_order(line: &[u8]) -> Order
     bare_order(line)
 }
 
-// The orders of one word, and `write`.
+// An order of one word.
 fn bare_order(line: &[u8]) -> Order
     ensures { λ r. ⌜ r ≡ orderIn (drop 3 rows) (now (line .entry)) ⌝ }
 {
@@ -410,6 +410,13 @@ fn bare_order(line: &[u8]) -> Order
     if is_asked(line, b"advert", &bytes) {
         return Order::Advert;
     }
+    last_order(line)
+}
+
+// The last two orders.
+fn last_order(line: &[u8]) -> Order
+    ensures { λ r. ⌜ r ≡ orderIn (drop 6 rows) (now (line .entry)) ⌝ }
+{
     let fields = [
         AREA,
         255,
@@ -431,7 +438,7 @@ fn bare_order(line: &[u8]) -> Order
     if is_asked(line, b"write", &fields) {
         return Order::Write;
     }
-    if is_asked(line, b"sum", &bytes) {
+    if is_asked(line, b"sum", &[HEX]) {
         return Order::Sum;
     }
     Order::Unread

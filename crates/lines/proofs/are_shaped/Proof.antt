@@ -1,17 +1,15 @@
 -- `are_shaped` asks a word a turn: what is asked of all words behind the first is asked of those behind `end`.
-use Prim.Native.Nat.{_+_, _-_, _<_, _≤_, ℕ}
-use mathlib.Core.List.{List}
+use Prim.Native.Nat.{_+_, _-_, _<_, _≤_}
 use mathlib.Core.Path.{_∙_, _≡_, ap, sym}
 use native.Mathlib.Nat.{zero-add}
 use native.Mathlib.Omega.{arith}
 use lib.ListN.{drop, getD, length}
 use borrow.Author.Needs.{needs}
 use borrow.Author.Tests.{not-false, not-true}
-use Rattle.laws.proofs.Lists.{behind, from}
 use Rattle.lines.specs.Orders.{shaped}
 use Rattle.lines.specs.Words.{words}
-use Rattle.lines.proofs.Shapes.{shaped-end, shaped-short, shaped-step}
-use Rattle.lines.proofs.Words.{word-part, word-rest, word-stop}
+use Rattle.lines.proofs.Shapes.{shaped-end, shaped-short, shaped-word}
+use Rattle.lines.proofs.Words.{Ends, word-rest, word-stop}
 use Rattle.lines.proofs.are_shaped.Statement.{statement}
 use Rattle.lines.proofs.are_shaped.Tie as tie
 
@@ -26,17 +24,15 @@ length-before-requires c κs = search needs
 
 loop-holds : tie.Need-loop-holds Inv-loop μ-loop
 loop-holds c =
-    let line = c .before .before .before .args .line .now in
-    let e = c .length-before .ensures .0 in
-    (search needs, (search needs, (word-stop line 0 _ (e ∙ sym (zero-add _)), ap (shaped (c .before .before .before .args .kinds .now)) (word-rest line 0 _ (e ∙ sym (zero-add _))))))
+    let a = c .before .before .before .args in
+    let e : Ends (a .line .now) 0 (c .length-before .result) = c .length-before .ensures .0 ∙ sym (zero-add _) in
+    (search needs, (search needs, (word-stop (a .line .now) 0 _ e, ap (shaped (a .kinds .now)) (word-rest (a .line .now) 0 _ e))))
 
 returns : tie.Need-returns Inv-loop μ-loop
 returns c =
     let l = c .before .before in
     let a = c .before .before .before .before .before .before .args in
-    let line = a .line .now in
-    let kinds = a .kinds .now in
-    sym (l .loop .inv .1 .1 .1 ∙ ap (λ (ks : List ℕ). shaped ks (drop 1 (words (drop (l .loop .end) line)))) (from kinds (l .loop .i) 0 (c .before .loop-test .taken)) ∙ shaped-short (getD kinds (l .loop .i) 0) (drop (l .loop .i + 1) kinds) line (l .loop .end) (c .if1 .taken))
+    sym (l .loop .inv .1 .1 .1 ∙ shaped-short (a .kinds .now) (l .loop .i) (a .line .now) (l .loop .end) (c .before .loop-test .taken) (c .if1 .taken))
 
 add-start : tie.Need-add-start Inv-loop μ-loop
 add-start c = search needs
@@ -66,10 +62,10 @@ returns-2 : tie.Need-returns-2 Inv-loop μ-loop
 returns-2 c =
     let l = c .before .before .before .before .before .before .before in
     let a = c .before .before .before .before .before .before .before .before .before .before .before .args in
-    let line = a .line .now in
-    let kinds = a .kinds .now in
-    let e = word-part line (l .loop .end + 1) (c .before .before .before .before .end-of .result) (c .before .before .before .before .end-of .ensures .0) in
-    sym (l .loop .inv .1 .1 .1 ∙ ap (λ (ks : List ℕ). shaped ks (drop 1 (words (drop (l .loop .end) line)))) (from kinds (l .loop .i) 0 (c .before .before .before .before .before .before .loop-test .taken)) ∙ shaped-step (getD kinds (l .loop .i) 0) (drop (l .loop .i + 1) kinds) line (l .loop .end) (c .before .before .before .before .before .if1 .left) (l .loop .inv .1 .1 .0 (c .before .before .before .before .before .if1 .left)) ∙ rw (← e, ← c .before .is-kind .ensures, not-true (c .before .is-kind .result) (c .if2 .taken)))
+    let kind = c .before .is-kind in
+    let word = c .before .before .before .before .end-of in
+    let w = shaped-word (a .kinds .now) (l .loop .i) (a .line .now) (l .loop .end) (word .result) (c .before .before .before .before .before .before .loop-test .taken) (c .before .before .before .before .before .if1 .left) (l .loop .inv .1 .1 .0 (c .before .before .before .before .before .if1 .left)) (word .ensures .0) in
+    sym (l .loop .inv .1 .1 .1 ∙ w ∙ rw (← kind .ensures, not-true (kind .result) (c .if2 .taken)))
 
 add-i : tie.Need-add-i Inv-loop μ-loop
 add-i c = search needs
@@ -81,17 +77,17 @@ loop-again : tie.Need-loop-again Inv-loop μ-loop
 loop-again c =
     let l = c .before .before .before .before .before .before .before in
     let a = c .before .before .before .before .before .before .before .before .before .before .before .args in
-    let line = a .line .now in
-    let kinds = a .kinds .now in
-    let e = word-part line (l .loop .end + 1) (c .before .before .before .before .end-of .result) (c .before .before .before .before .end-of .ensures .0) in
-    (search needs, (search needs, (word-stop line (l .loop .end + 1) (c .before .before .before .before .end-of .result) (c .before .before .before .before .end-of .ensures .0), l .loop .inv .1 .1 .1 ∙ ap (λ (ks : List ℕ). shaped ks (drop 1 (words (drop (l .loop .end) line)))) (from kinds (l .loop .i) 0 (c .before .before .before .before .before .before .loop-test .taken)) ∙ shaped-step (getD kinds (l .loop .i) 0) (drop (l .loop .i + 1) kinds) line (l .loop .end) (c .before .before .before .before .before .if1 .left) (l .loop .inv .1 .1 .0 (c .before .before .before .before .before .if1 .left)) ∙ rw (← e, ← c .before .is-kind .ensures, not-false (c .before .is-kind .result) (c .if2 .left)) (ap (shaped (drop (l .loop .i + 1) kinds)) (word-rest line (l .loop .end + 1) (c .before .before .before .before .end-of .result) (c .before .before .before .before .end-of .ensures .0))))))
+    let kind = c .before .is-kind in
+    let word = c .before .before .before .before .end-of in
+    let w = shaped-word (a .kinds .now) (l .loop .i) (a .line .now) (l .loop .end) (word .result) (c .before .before .before .before .before .before .loop-test .taken) (c .before .before .before .before .before .if1 .left) (l .loop .inv .1 .1 .0 (c .before .before .before .before .before .if1 .left)) (word .ensures .0) in
+    let stop = word-stop (a .line .now) (l .loop .end + 1) (word .result) (word .ensures .0) in
+    (search needs, (search needs, (stop, l .loop .inv .1 .1 .1 ∙ w ∙ rw (← kind .ensures, not-false (kind .result) (c .if2 .left)))))
 
 returns-3 : tie.Need-returns-3 Inv-loop μ-loop
 returns-3 c =
     let l = c .before in
     let a = c .before .before .before .before .before .args in
-    let line = a .line .now in
-    shaped-end line (l .loop .end) (l .loop .inv .1 .1 .0) ∙ sym (l .loop .inv .1 .1 .1 ∙ ap (λ (ks : List ℕ). shaped ks (drop 1 (words (drop (l .loop .end) line)))) (behind (a .kinds .now) (l .loop .i) (omega arith)))
+    sym (l .loop .inv .1 .1 .1 ∙ shaped-end (a .kinds .now) (l .loop .i) (a .line .now) (l .loop .end) (omega arith) (l .loop .inv .1 .1 .0))
 
 pub are-shaped-spec : {M : Type 1} → statement M
 are-shaped-spec =

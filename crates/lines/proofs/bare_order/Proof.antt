@@ -1,7 +1,7 @@
--- `bare_order` asks the rows behind the third in turn.
+-- `bare_order` asks the next three rows in turn, and leaves the rest to `last_order`.
 use mathlib.Core.Path.{_∙_, sym}
 use borrow.Author.Needs.{needs}
-use Rattle.lines.proofs.Orders.{asked, none-asked, not-asked}
+use Rattle.lines.proofs.Orders.{asked, not-asked}
 use Rattle.lines.proofs.bare_order.Statement.{statement}
 use Rattle.lines.proofs.bare_order.Tie as tie
 
@@ -15,7 +15,9 @@ is-asked-requires : tie.Need-is-asked-requires
 is-asked-requires c κs = search needs
 
 returns : tie.Need-returns
-returns c = sym (asked _ _ (c .before .before .before .before .before .args .line .now) (sym (c .before .is-asked .ensures) ∙ c .if1 .taken))
+returns c =
+    let line = c .before .before .before .before .before .args .line .now in
+    sym (asked _ _ line (sym (c .before .is-asked .ensures) ∙ c .if1 .taken))
 
 slice-aggregate-is-asked-3 : tie.Need-slice-aggregate-is-asked-3
 slice-aggregate-is-asked-3 c = search needs
@@ -27,7 +29,11 @@ is-asked-requires-2 : tie.Need-is-asked-requires-2
 is-asked-requires-2 c κs = search needs
 
 returns-2 : tie.Need-returns-2
-returns-2 c = sym (not-asked _ _ (c .before .before .before .before .before .before .before .before .before .args .line .now) (sym (c .before .before .before .before .before .is-asked .ensures) ∙ c .before .before .before .before .if1 .left) ∙ asked _ _ (c .before .before .before .before .before .before .before .before .before .args .line .now) (sym (c .before .is-asked2 .ensures) ∙ c .if2 .taken))
+returns-2 c =
+    let line = c .before .before .before .before .before .before .before .before .before .args .line .now in
+    let one = c .before .before .before .before in
+    let past-one = not-asked _ _ line (sym (one .before .is-asked .ensures) ∙ one .if1 .left) in
+    sym (past-one ∙ asked _ _ line (sym (c .before .is-asked2 .ensures) ∙ c .if2 .taken))
 
 slice-aggregate-is-asked-5 : tie.Need-slice-aggregate-is-asked-5
 slice-aggregate-is-asked-5 c = search needs
@@ -39,34 +45,27 @@ is-asked-requires-3 : tie.Need-is-asked-requires-3
 is-asked-requires-3 c κs = search needs
 
 returns-3 : tie.Need-returns-3
-returns-3 c = sym (not-asked _ _ (c .before .before .before .before .before .before .before .before .before .before .before .before .before .args .line .now) (sym (c .before .before .before .before .before .before .before .before .before .is-asked .ensures) ∙ c .before .before .before .before .before .before .before .before .if1 .left) ∙ not-asked _ _ (c .before .before .before .before .before .before .before .before .before .before .before .before .before .args .line .now) (sym (c .before .before .before .before .before .is-asked2 .ensures) ∙ c .before .before .before .before .if2 .left) ∙ asked _ _ (c .before .before .before .before .before .before .before .before .before .before .before .before .before .args .line .now) (sym (c .before .is-asked3 .ensures) ∙ c .if3 .taken))
+returns-3 c =
+    let line = c .before .before .before .before .before .before .before .before .before .before .before .before .before .args .line .now in
+    let two = c .before .before .before .before in
+    let one = c .before .before .before .before .before .before .before .before in
+    let past-one = not-asked _ _ line (sym (one .before .is-asked .ensures) ∙ one .if1 .left) in
+    let past-two = not-asked _ _ line (sym (two .before .is-asked2 .ensures) ∙ two .if2 .left) in
+    sym (past-one ∙ past-two ∙ asked _ _ line (sym (c .before .is-asked3 .ensures) ∙ c .if3 .taken))
 
-slice-aggregate-is-asked-7 : tie.Need-slice-aggregate-is-asked-7
-slice-aggregate-is-asked-7 c = search needs
-
-slice-aggregate-is-asked-8 : tie.Need-slice-aggregate-is-asked-8
-slice-aggregate-is-asked-8 c = search needs
-
-is-asked-requires-4 : tie.Need-is-asked-requires-4
-is-asked-requires-4 c κs = search needs
+last-order-requires : tie.Need-last-order-requires
+last-order-requires c κs = search needs
 
 returns-4 : tie.Need-returns-4
-returns-4 c = sym (not-asked _ _ (c .before .before .before .before .before .before .before .before .before .before .before .before .before .before .before .before .before .args .line .now) (sym (c .before .before .before .before .before .before .before .before .before .before .before .before .before .is-asked .ensures) ∙ c .before .before .before .before .before .before .before .before .before .before .before .before .if1 .left) ∙ not-asked _ _ (c .before .before .before .before .before .before .before .before .before .before .before .before .before .before .before .before .before .args .line .now) (sym (c .before .before .before .before .before .before .before .before .before .is-asked2 .ensures) ∙ c .before .before .before .before .before .before .before .before .if2 .left) ∙ not-asked _ _ (c .before .before .before .before .before .before .before .before .before .before .before .before .before .before .before .before .before .args .line .now) (sym (c .before .before .before .before .before .is-asked3 .ensures) ∙ c .before .before .before .before .if3 .left) ∙ asked _ _ (c .before .before .before .before .before .before .before .before .before .before .before .before .before .before .before .before .before .args .line .now) (sym (c .before .is-asked4 .ensures) ∙ c .if4 .taken))
-
-slice-aggregate-is-asked-9 : tie.Need-slice-aggregate-is-asked-9
-slice-aggregate-is-asked-9 c = search needs
-
-slice-aggregate-is-asked-10 : tie.Need-slice-aggregate-is-asked-10
-slice-aggregate-is-asked-10 c = search needs
-
-is-asked-requires-5 : tie.Need-is-asked-requires-5
-is-asked-requires-5 c κs = search needs
-
-returns-5 : tie.Need-returns-5
-returns-5 c = sym (not-asked _ _ (c .before .before .before .before .before .before .before .before .before .before .before .before .before .before .before .before .before .before .before .before .before .args .line .now) (sym (c .before .before .before .before .before .before .before .before .before .before .before .before .before .before .before .before .before .is-asked .ensures) ∙ c .before .before .before .before .before .before .before .before .before .before .before .before .before .before .before .before .if1 .left) ∙ not-asked _ _ (c .before .before .before .before .before .before .before .before .before .before .before .before .before .before .before .before .before .before .before .before .before .args .line .now) (sym (c .before .before .before .before .before .before .before .before .before .before .before .before .before .is-asked2 .ensures) ∙ c .before .before .before .before .before .before .before .before .before .before .before .before .if2 .left) ∙ not-asked _ _ (c .before .before .before .before .before .before .before .before .before .before .before .before .before .before .before .before .before .before .before .before .before .args .line .now) (sym (c .before .before .before .before .before .before .before .before .before .is-asked3 .ensures) ∙ c .before .before .before .before .before .before .before .before .if3 .left) ∙ not-asked _ _ (c .before .before .before .before .before .before .before .before .before .before .before .before .before .before .before .before .before .before .before .before .before .args .line .now) (sym (c .before .before .before .before .before .is-asked4 .ensures) ∙ c .before .before .before .before .if4 .left) ∙ asked _ _ (c .before .before .before .before .before .before .before .before .before .before .before .before .before .before .before .before .before .before .before .before .before .args .line .now) (sym (c .before .is-asked5 .ensures) ∙ c .if5 .taken))
-
-returns-6 : tie.Need-returns-6
-returns-6 c = sym (not-asked _ _ (c .before .before .before .before .before .before .before .before .before .before .before .before .before .before .before .before .before .before .before .before .before .args .line .now) (sym (c .before .before .before .before .before .before .before .before .before .before .before .before .before .before .before .before .before .is-asked .ensures) ∙ c .before .before .before .before .before .before .before .before .before .before .before .before .before .before .before .before .if1 .left) ∙ not-asked _ _ (c .before .before .before .before .before .before .before .before .before .before .before .before .before .before .before .before .before .before .before .before .before .args .line .now) (sym (c .before .before .before .before .before .before .before .before .before .before .before .before .before .is-asked2 .ensures) ∙ c .before .before .before .before .before .before .before .before .before .before .before .before .if2 .left) ∙ not-asked _ _ (c .before .before .before .before .before .before .before .before .before .before .before .before .before .before .before .before .before .before .before .before .before .args .line .now) (sym (c .before .before .before .before .before .before .before .before .before .is-asked3 .ensures) ∙ c .before .before .before .before .before .before .before .before .if3 .left) ∙ not-asked _ _ (c .before .before .before .before .before .before .before .before .before .before .before .before .before .before .before .before .before .before .before .before .before .args .line .now) (sym (c .before .before .before .before .before .is-asked4 .ensures) ∙ c .before .before .before .before .if4 .left) ∙ not-asked _ _ (c .before .before .before .before .before .before .before .before .before .before .before .before .before .before .before .before .before .before .before .before .before .args .line .now) (sym (c .before .is-asked5 .ensures) ∙ c .if5 .left) ∙ none-asked (c .before .before .before .before .before .before .before .before .before .before .before .before .before .before .before .before .before .before .before .before .before .args .line .now))
+returns-4 c =
+    let line = c .before .before .before .before .before .before .before .before .before .before .before .before .before .before .args .line .now in
+    let three = c .before in
+    let two = c .before .before .before .before .before in
+    let one = c .before .before .before .before .before .before .before .before .before in
+    let past-one = not-asked _ _ line (sym (one .before .is-asked .ensures) ∙ one .if1 .left) in
+    let past-two = not-asked _ _ line (sym (two .before .is-asked2 .ensures) ∙ two .if2 .left) in
+    let past-three = not-asked _ _ line (sym (three .before .is-asked3 .ensures) ∙ three .if3 .left) in
+    sym (past-one ∙ past-two ∙ past-three ∙ sym (c .last-order .ensures))
 
 pub bare-order-spec : {M : Type 1} → statement M
 bare-order-spec =
@@ -84,12 +83,5 @@ bare-order-spec =
     slice-aggregate-is-asked-6
     is-asked-requires-3
     returns-3
-    slice-aggregate-is-asked-7
-    slice-aggregate-is-asked-8
-    is-asked-requires-4
-    returns-4
-    slice-aggregate-is-asked-9
-    slice-aggregate-is-asked-10
-    is-asked-requires-5
-    returns-5
-    returns-6)
+    last-order-requires
+    returns-4)

@@ -35,7 +35,9 @@ returns : tie.Need-returns
 returns c =
     let a = c .before .before .before .before .before .before .args in
     let line = a .line .now in
-    let word = word-part line (c .before .before .before .before .start-of .result) (c .before .before .before .end-of .result) (c .before .before .before .end-of .ensures .0) ∙ c .before .before .before .before .start-of .ensures .0 in
+    let start = c .before .before .before .before .start-of in
+    let end = c .before .before .before .end-of in
+    let word = word-part line (start .result) (end .result) (end .ensures .0) ∙ start .ensures .0 in
     let e = no-bytes (a .k) line (sym (ap isHex word) ∙ sym (c .before .is-hex .ensures) ∙ not-true (c .before .is-hex .result) (c .if1 .taken)) in
     record { length-is = sym (ap length e); area-is = sym (ap (λ (b : List ℕ). sent b (a .area .now)) e) }
 
@@ -51,8 +53,9 @@ part-put-pairs-end c = search needs
 put-pairs-requires : tie.Need-put-pairs-requires
 put-pairs-requires c κs =
     let a = c .before .before .before .before .before .before .before .before .args in
+    let start = c .before .before .before .before .before .before .start-of .result in
     let room : length (a .area .now) ≡ 1024 = search needs in
-    let w = take (c .before .before .before .before .before .end-of .result - c .before .before .before .before .before .before .start-of .result) (drop (c .before .before .before .before .before .before .start-of .result) (a .line .now)) in
+    let w = take (c .before .before .before .before .before .end-of .result - start) (drop start (a .line .now)) in
     let h : length w ≤ 2048 = hex-fits w (sym (c .before .before .before .is-hex .ensures) ∙ not-false (c .before .before .before .is-hex .result) (c .before .before .if1 .left)) in
     omega arith
 
@@ -60,7 +63,9 @@ returns-2 : tie.Need-returns-2
 returns-2 c =
     let a = c .before .before .before .before .before .before .before .before .before .args in
     let line = a .line .now in
-    let word = word-part line (c .before .before .before .before .before .before .before .start-of .result) (c .before .before .before .before .before .before .end-of .result) (c .before .before .before .before .before .before .end-of .ensures .0) ∙ c .before .before .before .before .before .before .before .start-of .ensures .0 in
+    let start = c .before .before .before .before .before .before .before .start-of in
+    let end = c .before .before .before .before .before .before .end-of in
+    let word = word-part line (start .result) (end .result) (end .ensures .0) ∙ start .ensures .0 in
     let e = hex-bytes (a .k) line (sym (ap isHex word) ∙ sym (c .before .before .before .before .is-hex .ensures) ∙ not-false (c .before .before .before .before .is-hex .result) (c .before .before .before .if1 .left)) in
     subst (λ (b : List ℕ). Sent b (c .put-pairs .result) (a .area .now) (c .put-pairs .last .1 .0)) (ap bytesIn word ∙ sym e) (c .put-pairs .ensures)
 

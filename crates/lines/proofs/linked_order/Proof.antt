@@ -15,7 +15,9 @@ is-asked-requires : tie.Need-is-asked-requires
 is-asked-requires c κs = search needs
 
 returns : tie.Need-returns
-returns c = sym (asked _ _ (c .before .before .before .before .before .args .line .now) (sym (c .before .is-asked .ensures) ∙ c .if1 .taken))
+returns c =
+    let line = c .before .before .before .before .before .args .line .now in
+    sym (asked _ _ line (sym (c .before .is-asked .ensures) ∙ c .if1 .taken))
 
 slice-aggregate-is-asked-3 : tie.Need-slice-aggregate-is-asked-3
 slice-aggregate-is-asked-3 c = search needs
@@ -27,7 +29,11 @@ is-asked-requires-2 : tie.Need-is-asked-requires-2
 is-asked-requires-2 c κs = search needs
 
 returns-2 : tie.Need-returns-2
-returns-2 c = sym (not-asked _ _ (c .before .before .before .before .before .before .before .before .before .args .line .now) (sym (c .before .before .before .before .before .is-asked .ensures) ∙ c .before .before .before .before .if1 .left) ∙ asked _ _ (c .before .before .before .before .before .before .before .before .before .args .line .now) (sym (c .before .is-asked2 .ensures) ∙ c .if2 .taken))
+returns-2 c =
+    let line = c .before .before .before .before .before .before .before .before .before .args .line .now in
+    let one = c .before .before .before .before in
+    let past-one = not-asked _ _ line (sym (one .before .is-asked .ensures) ∙ one .if1 .left) in
+    sym (past-one ∙ asked _ _ line (sym (c .before .is-asked2 .ensures) ∙ c .if2 .taken))
 
 slice-aggregate-is-asked-5 : tie.Need-slice-aggregate-is-asked-5
 slice-aggregate-is-asked-5 c = search needs
@@ -39,13 +45,27 @@ is-asked-requires-3 : tie.Need-is-asked-requires-3
 is-asked-requires-3 c κs = search needs
 
 returns-3 : tie.Need-returns-3
-returns-3 c = sym (not-asked _ _ (c .before .before .before .before .before .before .before .before .before .before .before .before .before .args .line .now) (sym (c .before .before .before .before .before .before .before .before .before .is-asked .ensures) ∙ c .before .before .before .before .before .before .before .before .if1 .left) ∙ not-asked _ _ (c .before .before .before .before .before .before .before .before .before .before .before .before .before .args .line .now) (sym (c .before .before .before .before .before .is-asked2 .ensures) ∙ c .before .before .before .before .if2 .left) ∙ asked _ _ (c .before .before .before .before .before .before .before .before .before .before .before .before .before .args .line .now) (sym (c .before .is-asked3 .ensures) ∙ c .if3 .taken))
+returns-3 c =
+    let line = c .before .before .before .before .before .before .before .before .before .before .before .before .before .args .line .now in
+    let two = c .before .before .before .before in
+    let one = c .before .before .before .before .before .before .before .before in
+    let past-one = not-asked _ _ line (sym (one .before .is-asked .ensures) ∙ one .if1 .left) in
+    let past-two = not-asked _ _ line (sym (two .before .is-asked2 .ensures) ∙ two .if2 .left) in
+    sym (past-one ∙ past-two ∙ asked _ _ line (sym (c .before .is-asked3 .ensures) ∙ c .if3 .taken))
 
 bare-order-requires : tie.Need-bare-order-requires
 bare-order-requires c κs = search needs
 
 returns-4 : tie.Need-returns-4
-returns-4 c = c .bare-order .ensures ∙ sym (not-asked _ _ (c .before .before .before .before .before .before .before .before .before .before .before .before .before .before .args .line .now) (sym (c .before .before .before .before .before .before .before .before .before .before .is-asked .ensures) ∙ c .before .before .before .before .before .before .before .before .before .if1 .left) ∙ not-asked _ _ (c .before .before .before .before .before .before .before .before .before .before .before .before .before .before .args .line .now) (sym (c .before .before .before .before .before .before .is-asked2 .ensures) ∙ c .before .before .before .before .before .if2 .left) ∙ not-asked _ _ (c .before .before .before .before .before .before .before .before .before .before .before .before .before .before .args .line .now) (sym (c .before .before .is-asked3 .ensures) ∙ c .before .if3 .left))
+returns-4 c =
+    let line = c .before .before .before .before .before .before .before .before .before .before .before .before .before .before .args .line .now in
+    let three = c .before in
+    let two = c .before .before .before .before .before in
+    let one = c .before .before .before .before .before .before .before .before .before in
+    let past-one = not-asked _ _ line (sym (one .before .is-asked .ensures) ∙ one .if1 .left) in
+    let past-two = not-asked _ _ line (sym (two .before .is-asked2 .ensures) ∙ two .if2 .left) in
+    let past-three = not-asked _ _ line (sym (three .before .is-asked3 .ensures) ∙ three .if3 .left) in
+    sym (past-one ∙ past-two ∙ past-three ∙ sym (c .bare-order .ensures))
 
 pub linked-order-spec : {M : Type 1} → statement M
 linked-order-spec =

@@ -5,7 +5,8 @@ use native.Mathlib.Omega.{arith}
 use lib.ListN.{length, length-set}
 use lib.Seq.{paste, paste-zero}
 use borrow.Author.Needs.{needs}
-use Rattle.lines.specs.Orders.{area, configuration}
+use Rattle.laws.specs.Bytes.{laid}
+use Rattle.lines.specs.Orders.{area, configuration, family}
 use Rattle.lines.proofs.Areas.{front-three, front-whole}
 use Rattle.lines.proofs.Configurations.{configuration-length, family-of, group-of, unit-of}
 use Rattle.lines.proofs.Laws.{number-most}
@@ -85,7 +86,11 @@ loop-again c =
     let size = configuration-length n 1 line in
     let t = c .before .before .before .loop-test .taken in
     let e : i * 3 + 3 ≡ (i + 1) * 3 = omega arith in
-    (search needs, (simp length-set (l .loop .inv .1 .0), front-three (a .area .now) (configuration n 1 line) (i * 3) _ _ _ _ (omega arith) (omega arith) (c .before .before .letter-at .ensures ∙ sym (family-of n i line t)) (c .before .number-at .ensures ∙ sym (group-of n i line t)) (c .number-at2 .ensures ∙ sym (unit-of n i line t)) (l .loop .inv .1 .1) ∙ ap (paste (a .area .now) 0 (configuration n 1 line)) e))
+    let family = c .before .before .letter-at .ensures ∙ sym (family-of n i line t) in
+    let group = c .before .number-at .ensures ∙ sym (group-of n i line t) in
+    let unit = c .number-at2 .ensures ∙ sym (unit-of n i line t) in
+    let laid = front-three (a .area .now) (configuration n 1 line) (i * 3) _ _ _ _ (omega arith) (omega arith) family group unit (l .loop .inv .1 .1) in
+    (search needs, (simp length-set (l .loop .inv .1 .0), laid ∙ ap (paste (a .area .now) 0 (configuration n 1 line)) e))
 
 mul-result : tie.Need-mul-result Inv-loop μ-loop
 mul-result c = search needs
