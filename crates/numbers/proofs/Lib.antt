@@ -1,2 +1,4 @@
 pub mod Decimals
 pub mod Determined
+pub mod Numerals
+pub mod Plain

@@ -1,10 +1,11 @@
 // Decimals in and out: what digits write, and the digits that write a number.
 ghost use mathlib.Core.Path.{_≡_};
 ghost use mathlib.Core.Bool.{true};
-ghost use Prim.Native.Nat.{_≤_};
+ghost use Prim.Native.Nat.{_+_, _/_, _%_, _^_, _≤_};
 ghost use lib.ListN.{length};
 ghost use Rattle.laws.specs.Lists.{every};
-ghost use Rattle.numbers.specs.Decimals.{isDigit, decimal, inDigits, numberOf, spelled};
+ghost use Rattle.numbers.specs.Decimals.{isDigit, decimal, inDigits, numberOf, leadsZero, upTo, spelled};
+ghost use Rattle.numbers.specs.Plain.{width};
 
 // The number that a text writes, if it writes one.
 pub enum Number {
@@ -73,6 +74,32 @@ pub fn number_of(p: &[u8]) -> Number
     Number::Is(number_in(p))
 }
 
+// A leading zero: `0` alone has none.
+fn leads_zero(s: &[u8]) -> bool
+    ensures { λ r. ⌜ r ≡ leadsZero (now (s .entry)) ⌝ }
+{
+    if s.len() < 2 {
+        return false;
+    }
+    s[0] == b'0'
+}
+
+// A number without sign or leading zero, up to a most. One of more than sixteen digits is over any most.
+pub fn plain_number(s: &[u8], most: u32) -> Number
+    ensures { λ r. ⌜ r ≡ upTo most (now (s .entry)) ⌝ }
+{
+    if leads_zero(s) {
+        return Number::Not;
+    }
+    let Number::Is(v) = number_of(s) else {
+        return Number::Not;
+    };
+    if (most as u64) < v {
+        return Number::Not;
+    }
+    Number::Is(v)
+}
+
 // The last four digits of a number.
 pub fn digits4(v: u16) -> [u8; 4]
     ensures { λ r. ⌜ r ≡ inDigits 4 v ⌝ }
@@ -106,4 +133,42 @@ pub fn numeral_of(v: u8) -> Numeral
         bytes: [d[1], d[2], d[3]],
         len: 3,
     }
+}
+
+// The powers of ten that a word holds.
+const TENS: [u32; 10] = [
+    1,
+    10,
+    100,
+    1000,
+    10000,
+    100000,
+    1000000,
+    10000000,
+    100000000,
+    1000000000,
+];
+
+// How many digits a number takes.
+pub fn width_of(v: u32) -> usize
+    ensures { λ r. ⌜ r ≡ width v ⌝ }
+{
+    let mut k = 1;
+    while k < 10 {
+        if v < TENS[k] {
+            return k;
+        }
+        k += 1;
+    }
+    10
+}
+
+// The digit of a number at a place, 0 the last.
+pub fn digit_at(v: u32, n: usize) -> u8
+    ensures { λ r. ⌜ r ≡ 0x30 + v / 10 ^ n % 10 ⌝ }
+{
+    if 9 < n {
+        return b'0';
+    }
+    b'0' + (v / TENS[n] % 10) as u8
 }

@@ -1,17 +1,19 @@
 -- The rules of the rows of texts, each from one test computed over all rows.
 use Prim.Native.Nat.{ℕ, _+_, _-_, _*_, _<_, _≤_}
-use mathlib.Core.Path.{_≡_}
-use mathlib.Core.Bool.{Bool}
+use mathlib.Core.Path.{_≡_, refl, sym, _∙_}
+use mathlib.Core.Bool.{Bool, true, false, cond, _&&_}
 use mathlib.Core.List.{List, [], _∷_, _++_, map}
 use native.Mathlib.Omega.{arith}
 use lib.Dec.{eqb, leb, eqb→eq, leb→le}
 use lib.ListN.{length, getD, take, drop, replicate, List·getD-map, List·getD-eq-default}
-use Rattle.laws.specs.Bytes.{same}
+use Rattle.laws.specs.Bytes.{same, begins}
 use Rattle.laws.specs.Lists.{everyBelow}
+use borrow.Author.Tests.{ne-eqb, eqb-true}
+use Rattle.laws.proofs.Conditions.{false-true, and-first, and-second}
 use Rattle.laws.proofs.Lists.{same-is}
 use Rattle.laws.proofs.Table.{below, sure}
 use Rattle.words.specs.Names.{names, leads, nameOf, leadOf, wordsOf, wordOf}
-use Rattle.words.specs.Rows.{values, textOf, bareOf}
+use Rattle.words.specs.Rows.{values, textOf, bareOf, meets}
 
 -- the texts in rows of 13 places, as the code holds them
 abbrev pub laid : List (List ℕ) → List ℕ
@@ -72,6 +74,29 @@ bareFits row = leb (length (bareOf row)) (length (textOf row))
 pub bare-fits : (row : ℕ) → row < 32 → length (bareOf row) ≤ length (textOf row)
 unfolding bareFits
 bare-fits row h = leb→le _ _ (below 32 bareFits tt row h)
+
+-- the first byte of a row's text, and of its bare text: no text is empty
+abbrev pub initials : List ℕ
+initials = map (λ (t : List ℕ). getD t 0 0) (leads ++ values)
+
+initialRight : ℕ → Bool
+initialRight row = begins (getD initials row 0 ∷ []) (textOf row) && begins (getD initials row 0 ∷ []) (bareOf row)
+
+-- a list that has another first byte is not begun by a text, nor the same
+other-first : (x : ℕ) (t s : List ℕ) → begins (x ∷ []) t ≡ true → (getD s 0 0 ≡ x → ⊥) → (begins t s ≡ false) × (same t s ≡ false)
+other-first x [] s e d = absurd (false-true e)
+other-first x (y ∷ t) [] e d = (refl, refl)
+other-first x (y ∷ t) (z ∷ s) e d =
+    let q : eqb y z ≡ false = ne-eqb y z (λ p. d (sym p ∙ sym (eqb-true x y (and-first (eqb x y) true e)))) in
+    (rw q, rw q)
+
+pub other-initial : (bare : Bool) (row : ℕ) (s : List ℕ) → row < 32 → (getD s 0 0 ≡ getD initials row 0 → ⊥) → meets bare row s ≡ false
+unfolding initialRight meets
+other-initial bare row s h d = go bare (sure _ (below 32 initialRight tt row h))
+  where
+    go : (b : Bool) → initialRight row ≡ true → cond b (same (bareOf row) s) (begins (textOf row) s) ≡ false
+    go true e = other-first (getD initials row 0) (bareOf row) s (and-second (begins (getD initials row 0 ∷ []) (textOf row)) (begins (getD initials row 0 ∷ []) (bareOf row)) e) d .1
+    go false e = other-first (getD initials row 0) (textOf row) s (and-first (begins (getD initials row 0 ∷ []) (textOf row)) (begins (getD initials row 0 ∷ []) (bareOf row)) e) d .0
 
 -- the first rows are the names
 nameRow : ℕ → Bool

@@ -1,5 +1,6 @@
 // The words of the settings: which setting a name is, which of its values a word is, and the texts themselves (document 01,
 // "SDCP and VMC").
+use octets::byte_at;
 use octets::lay;
 ghost use mathlib.Core.Path.{_≡_};
 ghost use Prim.Native.Nat.{ℕ, _+_, _*_, _<_, _≤_};
@@ -47,6 +48,9 @@ const TEXTS: [u8; 416] = *b"PHASE _______\
     0____________\
     1____________\
     2____________";
+
+// Each text's first byte: most rows are told apart by it.
+const INITIALS: [u8; 32] = *b"PCVMNRRPKTTHBMCLSSFFFSSOOFL07012";
 
 // Each text's length.
 const LENGTHS: [usize; 32] = [
@@ -179,12 +183,13 @@ fn row_begins(s: &[u8], row: usize, n: usize) -> bool
     requires { ⌜ (row < 32) × (n ≤ length (textOf row)) ⌝ }
     ensures { λ r. ⌜ r ≡ begins (take n (textOf row)) (now (s .entry)) ⌝ }
 {
+    let texts = &TEXTS;
     let mut j = 0;
     while j < n {
         if s.len() <= j {
             return false;
         }
-        if TEXTS[row * 13 + j] != s[j] {
+        if texts[row * 13 + j] != s[j] {
             return false;
         }
         j += 1;
@@ -193,7 +198,7 @@ fn row_begins(s: &[u8], row: usize, n: usize) -> bool
 }
 
 // s is the bare text of a row, or begins with its whole text.
-fn row_meets(s: &[u8], row: usize, bare: bool) -> bool
+fn row_agrees(s: &[u8], row: usize, bare: bool) -> bool
     requires { ⌜ row < 32 ⌝ }
     ensures { λ r. ⌜ r ≡ meets bare row (now (s .entry)) ⌝ }
 {
@@ -206,6 +211,17 @@ fn row_meets(s: &[u8], row: usize, bare: bool) -> bool
     }
     let n = LENGTHS[row];
     row_begins(s, row, n)
+}
+
+// The same, after a look at the first byte.
+fn row_meets(s: &[u8], row: usize, bare: bool) -> bool
+    requires { ⌜ row < 32 ⌝ }
+    ensures { λ r. ⌜ r ≡ meets bare row (now (s .entry)) ⌝ }
+{
+    if byte_at(s, 0) != INITIALS[row] {
+        return false;
+    }
+    row_agrees(s, row, bare)
 }
 
 // The first of n rows that s meets, counted from the first of them.

@@ -14,10 +14,10 @@ use Rattle.words.proofs.row_begins.Statement.{statement}
 use Rattle.words.proofs.row_begins.Tie as tie
 
 abbrev Inv-loop : tie.InvT-loop
-Inv-loop s row n j₀ j = (j ≤ n) × (begins (take n (textOf row)) s ≡ begins (drop j (take n (textOf row))) (drop j s))
+Inv-loop s row n texts j₀ j = (j ≤ n) × (begins (take n (textOf row)) s ≡ begins (drop j (take n (textOf row))) (drop j s))
 
 abbrev μ-loop : tie.MeasureT-loop
-μ-loop s row n j₀ j = n - j
+μ-loop s row n texts j₀ j = n - j
 
 -- place j lies in the first n bytes of the row's text
 inside : (row n j : ℕ) → n ≤ length (textOf row) → j < n → j < length (take n (textOf row))
@@ -33,21 +33,21 @@ loop-holds c = (search needs, refl)
 returns : tie.Need-returns Inv-loop μ-loop
 returns c =
     let l = c .before .before in
-    let a = l .before .args in
-    sym (l .loop .inv .1 ∙ begins-ended (take (a .n) (textOf (a .row))) (a .s .now) (l .loop .j) (inside (a .row) (a .n) (l .loop .j) (l .before .pre .1) (c .before .loop-test .taken)) (c .if1 .taken))
+    let a = l .before .before .args in
+    sym (l .loop .inv .1 ∙ begins-ended (take (a .n) (textOf (a .row))) (a .s .now) (l .loop .j) (inside (a .row) (a .n) (l .loop .j) (l .before .before .pre .1) (c .before .loop-test .taken)) (c .if1 .taken))
 
 mul-if2 : tie.Need-mul-if2 Inv-loop μ-loop
 mul-if2 c = search needs
 
 add-if2 : tie.Need-add-if2 Inv-loop μ-loop
 add-if2 c =
-    let a = c .before .before .before in
+    let a = c .before .before .before .before in
     let h = text-short (a .args .row) (a .pre .0) in
     omega arith
 
-array-read-if2 : tie.Need-array-read-if2 Inv-loop μ-loop
-array-read-if2 c =
-    let a = c .before .before .before in
+element-copy-out-if2 : tie.Need-element-copy-out-if2 Inv-loop μ-loop
+element-copy-out-if2 c =
+    let a = c .before .before .before .before in
     let h = text-short (a .args .row) (a .pre .0) in
     omega arith
 
@@ -56,12 +56,12 @@ shared-slice-read-if2 c = search needs
 
 returns-2 : tie.Need-returns-2 Inv-loop μ-loop
 returns-2 c =
-    let l = c .before .before .before .before in
-    let a = l .before .args in
+    let l = c .before .before .before .before .before in
+    let a = l .before .before .args in
     let t = take (a .n) (textOf (a .row)) in
-    let h = inside (a .row) (a .n) (l .loop .j) (l .before .pre .1) (c .before .before .before .loop-test .taken) in
-    let b = byte (a .row) (a .n) (l .loop .j) (l .before .pre .0) (l .before .pre .1) (c .before .before .before .loop-test .taken) in
-    sym (l .loop .inv .1 ∙ begins-from t (a .s .now) (l .loop .j) h (c .before .before .if1 .left) ∙ rw (ne-eqb (getD t (l .loop .j) 0) (getD (a .s .now) (l .loop .j) 0) (λ e. c .if2 .taken (b ∙ e))))
+    let h = inside (a .row) (a .n) (l .loop .j) (l .before .before .pre .1) (c .before .before .before .before .loop-test .taken) in
+    let b = byte (a .row) (a .n) (l .loop .j) (l .before .before .pre .0) (l .before .before .pre .1) (c .before .before .before .before .loop-test .taken) in
+    sym (l .loop .inv .1 ∙ begins-from t (a .s .now) (l .loop .j) h (c .before .before .before .if1 .left) ∙ rw (ne-eqb (getD t (l .loop .j) 0) (getD (a .s .now) (l .loop .j) 0) (λ e. c .if2 .taken (b ∙ e))))
 
 add-j : tie.Need-add-j Inv-loop μ-loop
 add-j c = search needs
@@ -71,18 +71,18 @@ loop-less c = search needs
 
 loop-again : tie.Need-loop-again Inv-loop μ-loop
 loop-again c =
-    let l = c .before .before .before .before in
-    let a = l .before .args in
+    let l = c .before .before .before .before .before in
+    let a = l .before .before .args in
     let t = take (a .n) (textOf (a .row)) in
-    let h = inside (a .row) (a .n) (l .loop .j) (l .before .pre .1) (c .before .before .before .loop-test .taken) in
-    let b = byte (a .row) (a .n) (l .loop .j) (l .before .pre .0) (l .before .pre .1) (c .before .before .before .loop-test .taken) in
-    (search needs, l .loop .inv .1 ∙ begins-from t (a .s .now) (l .loop .j) h (c .before .before .if1 .left) ∙ rw (eq-eqb (getD t (l .loop .j) 0) (getD (a .s .now) (l .loop .j) 0) (sym b ∙ c .if2 .left)))
+    let h = inside (a .row) (a .n) (l .loop .j) (l .before .before .pre .1) (c .before .before .before .before .loop-test .taken) in
+    let b = byte (a .row) (a .n) (l .loop .j) (l .before .before .pre .0) (l .before .before .pre .1) (c .before .before .before .before .loop-test .taken) in
+    (search needs, l .loop .inv .1 ∙ begins-from t (a .s .now) (l .loop .j) h (c .before .before .before .if1 .left) ∙ rw (eq-eqb (getD t (l .loop .j) 0) (getD (a .s .now) (l .loop .j) 0) (sym b ∙ c .if2 .left)))
 
 returns-3 : tie.Need-returns-3 Inv-loop μ-loop
 returns-3 c =
     let l = c .before in
-    let a = l .before .args in
-    let h : length (take (a .n) (textOf (a .row))) ≤ l .loop .j = rw (length-take-le (a .n) (textOf (a .row)) (l .before .pre .1)) (omega arith) in
+    let a = l .before .before .args in
+    let h : length (take (a .n) (textOf (a .row))) ≤ l .loop .j = rw (length-take-le (a .n) (textOf (a .row)) (l .before .before .pre .1)) (omega arith) in
     sym (l .loop .inv .1 ∙ begins-whole (take (a .n) (textOf (a .row))) (a .s .now) (l .loop .j) h)
 
 pub row-begins-spec : {M : Type 1} → statement M
@@ -95,7 +95,7 @@ row-begins-spec =
     returns
     mul-if2
     add-if2
-    array-read-if2
+    element-copy-out-if2
     shared-slice-read-if2
     returns-2
     add-j
