@@ -71,21 +71,24 @@ pub fn is_listed(numbers: &[u8], x: u8) -> bool
     false
 }
 
-// Whether each number is at most the bound at its place.
+// Whether each number is at most the bound at its place. Every place is asked, with no early return, so that the compiler can
+// ask many at once.
 pub fn are_within(numbers: &[u8], bounds: &[u8]) -> bool
     ensures { λ r. ⌜ r ≡ within (now (numbers .entry)) (now (bounds .entry)) ⌝ }
 {
+    let mut n = numbers.len();
+    if bounds.len() < n {
+        n = bounds.len();
+    }
+    let mut ok = true;
     let mut i = 0;
-    while i < numbers.len() {
-        if bounds.len() <= i {
-            return true;
-        }
+    while i < n {
         if bounds[i] < numbers[i] {
-            return false;
+            ok = false;
         }
         i += 1;
     }
-    true
+    ok
 }
 
 // The byte at a place, 0 past the end.

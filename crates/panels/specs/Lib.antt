@@ -1,3 +1,4 @@
 pub mod Configure
+pub mod Pairs
 pub mod Records
 pub mod Valid

@@ -10,10 +10,14 @@ use terms::same_group;
 use terms::same_unit;
 ghost use mathlib.Core.Path.{_≡_};
 ghost use Prim.Native.Nat.{_+_, _*_, _<_, _≤_};
+ghost use mathlib.Core.Bool.{_&&_};
+ghost use mathlib.Core.List.{map};
+ghost use lib.Dec.{leb};
 ghost use lib.ListN.{length, take, drop};
 ghost use Rattle.laws.specs.Lists.{every};
 ghost use Rattle.panels.specs.Records.{startW, startK, zeroPanel};
 ghost use Rattle.panels.specs.Valid.{okShift, okBias, okInputs, okGain, okBalance, okW, okInput, okK, okIds, zeroIds, okPanel, share, apart, distinct, valid};
+ghost use Rattle.panels.specs.Pairs.{bare, gathered};
 ghost use Rattle.panels.specs.Configure.{asked, freshPanel, refusal, configured};
 
 // The inputs of a W panel: the code of the connector in use, the code of the preset white balance, and which of the ten
@@ -63,6 +67,13 @@ pub struct Panel {
     pub spare: u8,
     pub w: WRecord,
     pub k: KRecord,
+}
+
+// What the test of pairs looks at: three bytes a panel, where a whole panel is sixty.
+struct Ids {
+    family: u8,
+    group: GroupId,
+    unit: UnitId,
 }
 
 // "A box holds 1 to 8 panels, numbered from 1 in the order given."
@@ -265,8 +276,8 @@ fn panel_ok(p: Panel) -> bool
 }
 
 // Two W panels that share both IDs. A group is compared with a group and a unit with a unit.
-fn share_pair(p: Panel, q: Panel) -> bool
-    ensures { λ r. ⌜ r ≡ share p q ⌝ }
+fn share_pair(p: Ids, q: Ids) -> bool
+    ensures { λ r. ⌜ r ≡ share (bare p) (bare q) ⌝ }
 {
     if p.family != 87 {
         return false;
@@ -278,6 +289,16 @@ fn share_pair(p: Panel, q: Panel) -> bool
         return false;
     }
     same_unit(p.unit, q.unit)
+}
+
+// The same of the panel at place i, where only those from a place on count.
+fn share_from(p: Ids, q: Ids, from: usize, i: usize) -> bool
+    ensures { λ r. ⌜ r ≡ (leb from i && share (bare p) (bare q)) ⌝ }
+{
+    if i < from {
+        return false;
+    }
+    share_pair(p, q)
 }
 
 // The first n panels are good by themselves.
@@ -296,15 +317,40 @@ fn all_ok(ps: [Panel; 8], n: usize) -> bool
     true
 }
 
-// None of the panels from a place up to n shares its pair with p.
-fn apart_from(p: Panel, ps: [Panel; 8], from: usize, n: usize) -> bool
-    requires { ⌜ (from ≤ n) × (n ≤ 8) ⌝ }
-    ensures { λ r. ⌜ r ≡ every (apart p) (drop from (take n ps)) ⌝ }
+// The family and the IDs of the first n panels, each at its place.
+fn ids_of(ps: [Panel; 8], n: usize) -> [Ids; 8]
+    requires { ⌜ n ≤ 8 ⌝ }
+    ensures { λ r. ⌜ r ≡ gathered ps n ⌝ }
 {
-    let mut i = from;
+    let none = Ids {
+        family: 0,
+        group: GroupId(0),
+        unit: UnitId(0),
+    };
+    let mut ids = [none; 8];
+    let mut i = 0;
     while i < n {
-        let q = ps[i];
-        if share_pair(p, q) {
+        let p = ps[i];
+        let group = p.group;
+        let unit = p.unit;
+        ids[i] = Ids {
+            family: p.family,
+            group,
+            unit,
+        };
+        i += 1;
+    }
+    ids
+}
+
+// None of the panels from a place on shares its pair with p. The bounds are fixed, so that the compiler can lay the turns out.
+fn apart_from(p: Ids, ids: [Ids; 8], from: usize) -> bool
+    ensures { λ r. ⌜ r ≡ every (apart (bare p)) (drop from (map bare ids)) ⌝ }
+{
+    let mut i = 0;
+    while i < 8 {
+        let q = ids[i];
+        if share_from(p, q, from, i) {
             return false;
         }
         i += 1;
@@ -313,14 +359,13 @@ fn apart_from(p: Panel, ps: [Panel; 8], from: usize, n: usize) -> bool
 }
 
 // "No two W panels share both."
-fn all_apart(ps: [Panel; 8], n: usize) -> bool
-    requires { ⌜ n ≤ 8 ⌝ }
-    ensures { λ r. ⌜ r ≡ distinct (take n ps) ⌝ }
+fn all_apart(ids: [Ids; 8]) -> bool
+    ensures { λ r. ⌜ r ≡ distinct (map bare ids) ⌝ }
 {
     let mut i = 0;
-    while i < n {
-        let p = ps[i];
-        if !apart_from(p, ps, i + 1, n) {
+    while i < 8 {
+        let p = ids[i];
+        if !apart_from(p, ids, i + 1) {
             return false;
         }
         i += 1;
@@ -343,7 +388,8 @@ pub fn is_valid(b: DisplayBox) -> bool
     if !all_ok(ps, n) {
         return false;
     }
-    all_apart(ps, n)
+    let ids = ids_of(ps, n);
+    all_apart(ids)
 }
 
 fn start_w() -> WRecord

@@ -1,9 +1,10 @@
--- `are_within` asks the numbers in turn: before i all keep their bounds, so what is left from i on decides.
-use Prim.Native.Nat.{ℕ, _-_, _≤_}
+-- `are_within` asks every place of the shorter list: before i the flag says whether all keep their bounds, and what is left from i on says the rest.
+use Prim.Native.Nat.{ℕ, _+_, _-_, _<_, _≤_}
 use mathlib.Core.Path.{_≡_, refl, sym, ap, _∙_}
-use mathlib.Core.Bool.{true}
+use mathlib.Core.Bool.{Bool, true, false, _&&_, and-true, and-false}
 use mathlib.Core.List.{List, [], _∷_}
-use lib.ListN.{length, drop}
+use mathlib.Core.Logic.{⊎-elim}
+use lib.ListN.{length, getD, drop}
 use borrow.Author.Tests.{le-leb, lt-leb}
 use borrow.Author.Needs.{needs}
 use native.Mathlib.Omega.{arith}
@@ -12,36 +13,44 @@ use Rattle.laws.proofs.Lists.{behind, within-from}
 use Rattle.octets.proofs.are_within.Statement.{statement}
 use Rattle.octets.proofs.are_within.Tie as tie
 
-unbounded : (l : List ℕ) → within l [] ≡ true
-unbounded [] = refl
-unbounded (x ∷ l) = refl
+-- behind the end of either list nothing is asked
+no-numbers : (l bs : List ℕ) (n : ℕ) → length l ≤ n → within (drop n l) (drop n bs) ≡ true
+no-numbers l bs n h = rw (behind l n h)
+
+no-bounds : (l bs : List ℕ) (n : ℕ) → length bs ≤ n → within (drop n l) (drop n bs) ≡ true
+no-bounds l bs n h = rw (behind bs n h) (unbounded (drop n l))
+  where
+    unbounded : (l : List ℕ) → within l [] ≡ true
+    unbounded [] = refl
+    unbounded (x ∷ l) = refl
+
+-- a place passed: a number over its bound lowers the flag, another leaves it
+module _ (l bs : List ℕ) (i : ℕ) (ok : Bool) (h : i < length l) (k : i < length bs) (e : within l bs ≡ (ok && within (drop i l) (drop i bs))) where
+  over : getD bs i 0 < getD l i 0 → within l bs ≡ false
+  over t = e ∙ ap (λ (b : Bool). ok && b) (within-from l bs i h k ∙ rw (lt-leb _ _ t)) ∙ and-false ok
+
+  kept : getD l i 0 ≤ getD bs i 0 → within l bs ≡ (ok && within (drop (i + 1) l) (drop (i + 1) bs))
+  kept t = e ∙ ap (λ (b : Bool). ok && b) (within-from l bs i h k ∙ rw (le-leb _ _ t))
 
 abbrev Inv-loop : tie.InvT-loop
-Inv-loop numbers bounds i₀ i = (i ≤ length numbers) × (within numbers bounds ≡ within (drop i numbers) (drop i bounds))
+Inv-loop numbers bounds n ok₀ i₀ ok i = (i ≤ n) × ((n ≤ length numbers) × ((n ≤ length bounds) × ((within (drop n numbers) (drop n bounds) ≡ true) × (within numbers bounds ≡ (ok && within (drop i numbers) (drop i bounds))))))
 
 abbrev μ-loop : tie.MeasureT-loop
-μ-loop numbers bounds i₀ i = length numbers - i
+μ-loop numbers bounds n ok₀ i₀ ok i = n - i
 
 loop-holds : tie.Need-loop-holds Inv-loop μ-loop
-loop-holds c = (search needs, refl)
-
-returns : tie.Need-returns Inv-loop μ-loop
-returns c =
-    let l = c .before .before in
-    let a = l .before .args in
-    sym (l .loop .inv .1 ∙ ap (within (drop (l .loop .i) (a .numbers .now))) (behind (a .bounds .now) (l .loop .i) (c .if1 .taken)) ∙ unbounded (drop (l .loop .i) (a .numbers .now)))
+loop-holds c =
+    let a = c .before .args in
+    ⊎-elim
+    (λ w. (omega arith, (omega arith, (omega arith, (no-bounds (a .numbers .now) (a .bounds .now) (c .if1 .n) (omega arith), refl)))))
+    (λ w. (omega arith, (omega arith, (omega arith, (no-numbers (a .numbers .now) (a .bounds .now) (c .if1 .n) (omega arith), refl)))))
+    (c .if1 .came)
 
 shared-slice-read-if2 : tie.Need-shared-slice-read-if2 Inv-loop μ-loop
 shared-slice-read-if2 c = search needs
 
 shared-slice-read-if2-2 : tie.Need-shared-slice-read-if2-2 Inv-loop μ-loop
 shared-slice-read-if2-2 c = search needs
-
-returns-2 : tie.Need-returns-2 Inv-loop μ-loop
-returns-2 c =
-    let l = c .before .before .before .before .before in
-    let a = l .before .args in
-    sym (l .loop .inv .1 ∙ within-from (a .numbers .now) (a .bounds .now) (l .loop .i) (c .before .before .before .before .loop-test .taken) (c .before .before .before .if1 .left) ∙ rw (lt-leb _ _ (c .if2 .taken)))
 
 add-i : tie.Need-add-i Inv-loop μ-loop
 add-i c = search needs
@@ -51,16 +60,33 @@ loop-less c = search needs
 
 loop-again : tie.Need-loop-again Inv-loop μ-loop
 loop-again c =
-    let l = c .before .before .before .before .before in
-    let a = l .before .args in
-    (search needs, l .loop .inv .1 ∙ within-from (a .numbers .now) (a .bounds .now) (l .loop .i) (c .before .before .before .before .loop-test .taken) (c .before .before .before .if1 .left) ∙ rw (le-leb _ _ (c .if2 .left)))
+    let l = c .before .before .before .before in
+    let a = l .before .before .args in
+    let v = l .loop .inv .1 in
+    let h : l .loop .i < length (a .numbers .now) = omega arith in
+    let k : l .loop .i < length (a .bounds .now) = omega arith in (
+      omega arith,
+      (
+        v .0,
+        (
+          v .1 .0,
+          (
+            v .1 .1 .0,
+            ⊎-elim
+                (λ w. over (a .numbers .now) (a .bounds .now) (l .loop .i) (l .loop .ok) h k (v .1 .1 .1) (w .0 .taken) ∙ rw (w .1))
+                (λ w. kept (a .numbers .now) (a .bounds .now) (l .loop .i) (l .loop .ok) h k (v .1 .1 .1) (w .0 .left) ∙ rw (w .1))
+                (c .if2 .came),
+          ),
+        ),
+      ),
+    )
 
-returns-3 : tie.Need-returns-3 Inv-loop μ-loop
-returns-3 c =
+returns : tie.Need-returns Inv-loop μ-loop
+returns c =
     let l = c .before in
-    let a = l .before .args in
-    let h : length (a .numbers .now) ≤ l .loop .i = omega arith in
-    sym (l .loop .inv .1 ∙ rw (behind (a .numbers .now) (l .loop .i) h))
+    let v = l .loop .inv .1 .1 .1 in
+    let e : l .loop .i ≡ l .before .if1 .n = omega arith in
+    sym (v .1 ∙ rw (e, v .0) (and-true (l .loop .ok)))
 
 pub are-within-spec : {M : Type 1} → statement M
 are-within-spec =
@@ -69,11 +95,9 @@ are-within-spec =
     Inv-loop
     μ-loop
     loop-holds
-    returns
     shared-slice-read-if2
     shared-slice-read-if2-2
-    returns-2
     add-i
     loop-less
     loop-again
-    returns-3)
+    returns)

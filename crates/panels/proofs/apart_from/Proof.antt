@@ -1,24 +1,27 @@
--- `apart_from` asks the panels in turn: before i none shares p's pair, so what is left from i on decides.
-use Prim.Native.Nat.{_-_, _≤_}
-use mathlib.Core.Path.{_≡_, refl, sym, ap, _∙_}
-use lib.ListN.{length, take, drop}
+-- `apart_from` asks the places in turn, those before the first asked in vain: before i none shares p's pair, so what is left decides.
+use Prim.Native.Nat.{_-_, _<_, _≤_}
+use mathlib.Core.Path.{_≡_, sym, _∙_}
+use mathlib.Core.List.{map}
+use lib.ListN.{length, drop}
+use lib.Seq.{drop-nil}
 use borrow.Author.Needs.{needs}
+use native.Mathlib.Nat.{sub-zero}
 use native.Mathlib.Omega.{arith}
 use Rattle.laws.specs.Lists.{every}
-use Rattle.laws.proofs.Lists.{first-from, first-behind, from}
-use Rattle.panels.specs.Records.{pastEnd}
 use Rattle.panels.specs.Valid.{apart}
+use Rattle.panels.specs.Pairs.{bare}
+use Rattle.panels.proofs.Distinct.{turn, bare-behind}
 use Rattle.panels.proofs.apart_from.Statement.{statement}
 use Rattle.panels.proofs.apart_from.Tie as tie
 
 abbrev Inv-loop : tie.InvT-loop
-Inv-loop p from n ps i₀ i = (i ≤ n) × ((length ps ≡ 8) × (every (apart p) (drop from (take n ps)) ≡ every (apart p) (drop i (take n ps))))
+Inv-loop p from ids i₀ i = (i ≤ 8) × ((length ids ≡ 8) × (every (apart (bare p)) (drop from (map bare ids)) ≡ every (apart (bare p)) (drop (from - i) (drop i (map bare ids)))))
 
 abbrev μ-loop : tie.MeasureT-loop
-μ-loop p from n ps i₀ i = n - i
+μ-loop p from ids i₀ i = 8 - i
 
 loop-holds : tie.Need-loop-holds Inv-loop μ-loop
-loop-holds c = (omega arith, (search needs, refl))
+loop-holds c = (omega arith, (search needs, rw sub-zero))
 
 mul-q : tie.Need-mul-q Inv-loop μ-loop
 mul-q c = omega arith
@@ -26,16 +29,15 @@ mul-q c = omega arith
 array-copy-out-q : tie.Need-array-copy-out-q Inv-loop μ-loop
 array-copy-out-q c = omega arith
 
-share-pair-requires : tie.Need-share-pair-requires Inv-loop μ-loop
-share-pair-requires c κs = search needs
+share-from-requires : tie.Need-share-from-requires Inv-loop μ-loop
+share-from-requires c κs = search needs
 
 returns : tie.Need-returns Inv-loop μ-loop
 returns c =
     let l = c .before .before .before .before in
-    let n = l .before .args .n in
-    let ps = l .before .args .t2 in
-    let k : n ≤ length ps = omega arith in
-    sym (l .loop .inv .1 .1 ∙ ap (every (apart (l .before .args .p))) (first-from ps n (l .loop .i) pastEnd (c .before .before .before .loop-test .taken) k) ∙ rw (← c .before .share-pair .ensures, c .if1 .taken))
+    let a = l .before .args in
+    let h : l .loop .i < length (a .t2) = omega arith in
+    sym (l .loop .inv .1 .1 ∙ turn (bare (a .p)) (a .t2) (a .from) (l .loop .i) h ∙ rw (← c .before .share-from .ensures, c .if1 .taken))
 
 add-i : tie.Need-add-i Inv-loop μ-loop
 add-i c = omega arith
@@ -46,18 +48,16 @@ loop-less c = omega arith
 loop-again : tie.Need-loop-again Inv-loop μ-loop
 loop-again c =
     let l = c .before .before .before .before in
-    let n = l .before .args .n in
-    let ps = l .before .args .t2 in
-    let k : n ≤ length ps = omega arith in
-    (omega arith, (l .loop .inv .1 .0, l .loop .inv .1 .1 ∙ ap (every (apart (l .before .args .p))) (first-from ps n (l .loop .i) pastEnd (c .before .before .before .loop-test .taken) k) ∙ rw (← c .before .share-pair .ensures, c .if1 .left)))
+    let a = l .before .args in
+    let h : l .loop .i < length (a .t2) = omega arith in
+    (omega arith, (l .loop .inv .1 .0, l .loop .inv .1 .1 ∙ turn (bare (a .p)) (a .t2) (a .from) (l .loop .i) h ∙ rw (← c .before .share-from .ensures, c .if1 .left)))
 
 returns-2 : tie.Need-returns-2 Inv-loop μ-loop
 returns-2 c =
     let l = c .before in
-    let n = l .before .args .n in
-    let ps = l .before .args .t2 in
-    let k : n ≤ length ps = omega arith in
-    sym (l .loop .inv .1 .1 ∙ ap (every (apart (l .before .args .p))) (first-behind ps n (l .loop .i) (omega arith) k))
+    let a = l .before .args in
+    let h : length (a .t2) ≤ l .loop .i = omega arith in
+    sym (l .loop .inv .1 .1 ∙ rw (bare-behind (a .t2) (l .loop .i) h, drop-nil (a .from - l .loop .i)))
 
 pub apart-from-spec : {M : Type 1} → statement M
 apart-from-spec =
@@ -68,7 +68,7 @@ apart-from-spec =
     loop-holds
     mul-q
     array-copy-out-q
-    share-pair-requires
+    share-from-requires
     returns
     add-i
     loop-less
