@@ -1,0 +1,4 @@
+pub mod Carried
+pub mod Determined
+pub mod Examples
+pub mod Lent
