@@ -27,18 +27,12 @@ c_program() {
         "$kit/on/$machine/bin/rattle-link" --target x86_64-unknown-linux-gnu --toolchain "$tools" -o "$1" "$1.o" "$3"
 }
 
-# memcheck_program OUT FILE.c CRATE: the same C program in a form that valgrind can run. Valgrind runs the code of its own
-# machine only: on another machine than x86-64 the very module that becomes the archive is compiled for this machine as well,
-# by a kit that is the installed one but for a C compiler that does both.
-memcheck_program() {
-    if [ "$machine" = x86_64 ]; then
-        gcc "${c_flags[@]}" "$2" "target/staticlib/lib$3.a" -o "$1"
-        return
-    fi
-    local shadow object entry
-    shadow=$PWD/target/shadow-kit
-    object=$PWD/$1.module.o
-    rm -rf "$shadow" "$object"
+# shadow_kit OBJECT: valgrind runs the code of its own machine only, so on another machine than x86-64 the very module that
+# becomes a program or an archive is compiled for this machine as well, into OBJECT. The kit that does it is the installed one
+# but for a C compiler that does both; its folder is printed.
+shadow_kit() {
+    local shadow=$PWD/target/shadow-kit entry
+    rm -rf "$shadow" "$1"
     mkdir -p "$shadow/on/$machine/toolchain/bin" "$(dirname "$1")"
     for entry in "$kit"/*; do [ "${entry##*/}" = on ] || ln -s "$entry" "$shadow/"; done
     for entry in "$kit/on/$machine"/*; do [ "${entry##*/}" = toolchain ] || ln -s "$entry" "$shadow/on/$machine/"; done
@@ -46,10 +40,34 @@ memcheck_program() {
     for entry in "$tools"/bin/*; do [ "${entry##*/}" = clang ] || ln -s "$entry" "$shadow/on/$machine/toolchain/bin/"; done
     cat > "$shadow/on/$machine/toolchain/bin/clang" <<END
 #!/bin/sh
-case "\$*" in *module.bc*) "$tools/bin/clang" --target=$machine-unknown-linux-gnu -w -O2 -g -fPIC -c -x ir module.bc -o "$object" 2> /dev/null ;; esac
+case "\$*" in *module.bc*) "$tools/bin/clang" --target=$machine-unknown-linux-gnu -w -O3 -g -fPIC -c -x ir module.bc -o "$1" 2> /dev/null ;; esac
 exec "$tools/bin/clang" "\$@"
 END
     chmod +x "$shadow/on/$machine/toolchain/bin/clang"
+    echo "$shadow"
+}
+
+# memcheck_program OUT FILE.c CRATE: the C program and the crate's archive in a form that valgrind can run
+memcheck_program() {
+    if [ "$machine" = x86_64 ]; then
+        gcc "${c_flags[@]}" "$2" "target/staticlib/lib$3.a" -o "$1"
+        return
+    fi
+    local object=$PWD/$1.module.o shadow
+    shadow=$(shadow_kit "$object")
     RATTLE_HOME=$shadow rt staticlib "$3" > "$1.log" 2>&1 || { cat "$1.log"; return 1; }
     gcc "${c_flags[@]}" "$2" "$object" -o "$1"
+}
+
+# native_program OUT PROGRAM: a program of this repository in a form that valgrind can run
+native_program() {
+    if [ "$machine" = x86_64 ]; then
+        cp "target/bin/$2" "$1"
+        return
+    fi
+    local object=$PWD/$1.module.o shadow
+    shadow=$(shadow_kit "$object")
+    rm -f "target/stamp/$2"
+    RATTLE_HOME=$shadow rt check "$2" > "$1.log" 2>&1 < /dev/null || { cat "$1.log"; return 1; }
+    gcc "$object" -o "$1"
 }

@@ -1,0 +1,34 @@
+-- Lines and what they write, by computation.
+use mathlib.Core.Path.{_≡_, refl}
+use mathlib.Core.List.{[], _∷_, _++_}
+use Rattle.laws.specs.Bytes.{ascii}
+use Rattle.numbers.specs.Decimals.{isDigit, decimal, leadsZero, isNumeral, upTo, inDigits}
+use Rattle.numbers.specs.Plain.{widthFrom, width, plain}
+use Rattle.sums.specs.Sums.{sumOf}
+use Rattle.panels.specs.Records.{noBox}
+use Rattle.panels.specs.Configure.{askedAt, asked, configured}
+use Rattle.panels.specs.Valid.{okShift, okGain, okBias, okInputs, okBalance, okW, okInput, okK, okIds, zeroIds, okPanel, share, distinct, valid}
+use Rattle.lines.specs.Words.{before, words, numberAt, isHexDigit, hexValue, isHex, bytesIn, bytesAt}
+use Rattle.lines.specs.Orders.{isFamily, isKind, shaped, asks, panelKinds, panelsIn, asksBox, configuration, configurationOf, orderIn, isPassedOver, orderOf}
+use Rattle.texts.specs.Texts.{said}
+use Rattle.script.specs.Answers.{writes, boxed, isThere, shownAt, summed, ordered, answered}
+
+passed : answered noBox (ascii "# a remark") ≡ record { box = noBox; text = [] }
+unfolding answered ordered orderOf isPassedOver
+passed = refl
+
+no-order : answered noBox (ascii "sum 0 ") ≡ record { box = noBox; text = ascii "unread" ++ (0x0a ∷ []) }
+unfolding answered ordered orderOf isPassedOver asksBox panelsIn words asks orderIn shaped isKind isHex isHexDigit isDigit writes
+no-order = refl
+
+a-sum : answered noBox (ascii "sum 01fF") .text ≡ ascii "yes" ++ (0x0a ∷ [])
+unfolding answered ordered orderOf isPassedOver asksBox panelsIn words asks orderIn shaped isKind isHex isHexDigit isDigit writes summed bytesAt bytesIn hexValue sumOf
+a-sum = refl
+
+nothing-there : answered noBox (ascii "show 1") .text ≡ ascii "none" ++ (0x0a ∷ [])
+unfolding answered ordered orderOf isPassedOver asksBox panelsIn words asks orderIn shaped isKind isNumeral leadsZero upTo isDigit decimal numberAt isHex writes shownAt isThere
+nothing-there = refl
+
+bad-box : answered noBox (ascii "box K 0 1") ≡ record { box = noBox; text = ascii "box 7" ++ (0x0a ∷ []) }
+unfolding answered ordered orderOf isPassedOver asksBox panelsIn panelKinds words asks orderIn shaped isKind isFamily isNumeral leadsZero upTo isDigit decimal numberAt writes boxed configurationOf configuration configured asked askedAt valid okPanel zeroIds said plain width widthFrom inDigits
+bad-box = refl
