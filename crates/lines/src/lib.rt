@@ -38,6 +38,58 @@ const ANY: u32 = 4294967295;
 
 const AREA: u32 = 1024;
 
+// The words of sixteen panels.
+const PANELS: [u32; 48] = [
+    1, // family
+    255, // group
+    255, // unit
+    1, // family
+    255, // group
+    255, // unit
+    1, // family
+    255, // group
+    255, // unit
+    1, // family
+    255, // group
+    255, // unit
+    1, // family
+    255, // group
+    255, // unit
+    1, // family
+    255, // group
+    255, // unit
+    1, // family
+    255, // group
+    255, // unit
+    1, // family
+    255, // group
+    255, // unit
+    1, // family
+    255, // group
+    255, // unit
+    1, // family
+    255, // group
+    255, // unit
+    1, // family
+    255, // group
+    255, // unit
+    1, // family
+    255, // group
+    255, // unit
+    1, // family
+    255, // group
+    255, // unit
+    1, // family
+    255, // group
+    255, // unit
+    1, // family
+    255, // group
+    255, // unit
+    1, // family
+    255, // group
+    255, // unit
+];
+
 // How many bytes stand before the first c.
 pub fn length_before(c: u8, s: &[u8]) -> usize
     ensures { λ r. ⌜ (r ≡ length (before c (now (s .entry)))) × (r ≤ length (now (s .entry))) ⌝ }
@@ -288,56 +340,7 @@ fn panels_in(line: &[u8]) -> usize
 fn panel_kinds() -> [u32; 48]
     ensures { λ r. ⌜ r ≡ panelKinds 16 ⌝ }
 {
-    [
-        1,
-        255,
-        255,
-        1,
-        255,
-        255,
-        1,
-        255,
-        255,
-        1,
-        255,
-        255,
-        1,
-        255,
-        255,
-        1,
-        255,
-        255,
-        1,
-        255,
-        255,
-        1,
-        255,
-        255,
-        1,
-        255,
-        255,
-        1,
-        255,
-        255,
-        1,
-        255,
-        255,
-        1,
-        255,
-        255,
-        1,
-        255,
-        255,
-        1,
-        255,
-        255,
-        1,
-        255,
-        255,
-        1,
-        255,
-        255,
-    ]
+    PANELS
 }
 
 fn is_box(line: &[u8]) -> bool
