@@ -1,11 +1,10 @@
 // Reads a script from standard input, line by line, and writes what the box did (docs/SCRIPTS.md).
 use libc::STDIN_FILENO;
 use libc::STDOUT_FILENO;
-use lines::length_before;
 use panels::DisplayBox;
 use panels::configure;
+use pieces::take_part;
 use script::answer_line;
-use texts::put;
 ghost use mathlib.Core.Path.{_≡_};
 ghost use Prim.Native.Nat.{_+_, _≤_};
 ghost use lib.ListN.{length};
@@ -67,17 +66,8 @@ fn take_line(run: Run, store: &[u8], out: &mut [u8]) -> Run
     }
 }
 
-// Keeps what belongs to the line: 4,097 bytes are enough to see that it is too long.
-fn keep(run: Run, store: &mut [u8], bytes: &[u8]) -> Run
-    requires { ⌜ run .kept ≤ length (now store) ⌝ }
-    ensures { λ r. ⌜ (r .kept ≤ length (now (store .entry))) × (r .full ≡ run .full) ⌝ }
-{
-    let mut next = run;
-    next.kept = put(store, run.kept, bytes);
-    next
-}
-
-// Every line that ends in this piece of the input is answered; the rest is kept.
+// Every line that ends in this piece of the input is answered; the rest is kept. Of a line 4,097 bytes are kept, which is enough to
+// see that it is too long.
 fn take_piece(r: Run, piece: &[u8], store: &mut [u8], out: &mut [u8]) -> Run
     requires { ⌜ (r .kept ≤ length (now store)) × (r .full ≤ length (now out)) × (length (now out) ≡ 65536) × (length (now piece) ≤ 65536) ⌝ }
     ensures { λ q. ⌜ (q .kept ≤ length (now (store .entry))) × (q .full ≤ 65536) ⌝ }
@@ -85,13 +75,13 @@ fn take_piece(r: Run, piece: &[u8], store: &mut [u8], out: &mut [u8]) -> Run
     let mut run = r;
     let mut at = 0;
     while at < piece.len() {
-        let e = at + length_before(b'\n', &piece[at..]);
-        run = keep(run, store, &piece[at..e]);
-        if e == piece.len() {
+        let part = take_part(store, run.kept, piece, at);
+        run.kept = part.kept;
+        if !part.ended {
             return run;
         }
         run = take_line(run, store, out);
-        at = e + 1;
+        at = part.next;
     }
     run
 }

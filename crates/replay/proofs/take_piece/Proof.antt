@@ -1,9 +1,16 @@
 -- `take_piece` goes on behind each line that ends in the piece, so what is left of it shrinks; store and buffer keep their lengths.
 use borrow.Author.Needs.{needs}
 use native.Mathlib.Omega.{arith}
-use mathlib.Core.Path.{_≡_}
-use Prim.Native.Nat.{_+_, _-_, _<_, _≤_}
-use lib.ListN.{length, take, drop, length-take, length-drop}
+use mathlib.Core.Path.{_≡_, sym, _∙_}
+use Prim.Native.Nat.{ℕ, _-_, _<_, _≤_}
+use lib.ListN.{length}
+use mathlib.Core.List.{List}
+use mathlib.Core.Bool.{true}
+use borrow.Author.Tests.{not-false}
+use Rattle.texts.proofs.Puts.{puts-end, puts-length}
+use Rattle.pieces.specs.Parts.{Takes}
+use Rattle.pieces.specs.declared.Part.{Part}
+use Rattle.pieces.proofs.Parts.{next-ended}
 use Rattle.replay.proofs.take_piece.Statement.{statement}
 use Rattle.replay.proofs.take_piece.Tie as tie
 
@@ -17,32 +24,8 @@ abbrev μ-loop : tie.MeasureT-loop
 loop-holds : tie.Need-loop-holds Inv-loop μ-loop
 loop-holds c = search needs
 
-sub-length-before : tie.Need-sub-length-before Inv-loop μ-loop
-sub-length-before c = search needs
-
-part-length-before-start : tie.Need-part-length-before-start Inv-loop μ-loop
-part-length-before-start c = search needs
-
-part-length-before-end : tie.Need-part-length-before-end Inv-loop μ-loop
-part-length-before-end c = search needs
-
-length-before-requires : tie.Need-length-before-requires Inv-loop μ-loop
-length-before-requires c κs = search needs
-
-add-e : tie.Need-add-e Inv-loop μ-loop
-add-e c = search needs
-
-sub-keep : tie.Need-sub-keep Inv-loop μ-loop
-sub-keep c = search needs
-
-part-keep-start : tie.Need-part-keep-start Inv-loop μ-loop
-part-keep-start c = search needs
-
-part-keep-end : tie.Need-part-keep-end Inv-loop μ-loop
-part-keep-end c = search needs
-
-keep-requires : tie.Need-keep-requires Inv-loop μ-loop
-keep-requires c κs = search needs
+take-part-requires : tie.Need-take-part-requires Inv-loop μ-loop
+take-part-requires c κs = search needs
 
 same-length : tie.Need-same-length Inv-loop μ-loop
 same-length c = search needs
@@ -50,30 +33,50 @@ same-length c = search needs
 same-length-2 : tie.Need-same-length-2 Inv-loop μ-loop
 same-length-2 c = search needs
 
+-- a part of a line: the store is full to a place inside it, and the next line starts inside the piece, further on where this one ended
+inside : {piece store store′ : List ℕ} {at kept : ℕ} {r : Part} → Takes piece at kept store r store′ → kept ≤ length store → r .kept ≤ length store
+inside t h = puts-end (t .kept-is) h
+
+inside-after : {piece store store′ : List ℕ} {at kept : ℕ} {r : Part} → Takes piece at kept store r store′ → kept ≤ length store → r .kept ≤ length store′
+inside-after t h = let l = puts-length (t .kept-is) in let k = inside t h in omega (arith, l, k)
+
+further : (piece : List ℕ) (at : ℕ) {store store′ : List ℕ} {kept : ℕ} {r : Part} → Takes piece at kept store r store′ → r .ended ≡ true → (at < r .next) × (r .next ≤ length piece)
+further piece at {store} {store′} {kept} {r} t e = let n = next-ended piece at (sym (t .ended-is) ∙ e) in let q = t .next-is in (omega (arith, n, q), omega (arith, n, q))
+
 returns : tie.Need-returns Inv-loop μ-loop
-returns c = search needs
+returns c =
+    let l = c .before .before .before .before .before .before .before .loop in
+    let v = l .inv in
+    let k = v .3 in
+    let h = inside (c .before .before .before .before .take-part .ensures) (let a = v .0 in omega (arith, a, k)) in
+    (omega (arith, h, k), v .1)
 
 take-line-requires : tie.Need-take-line-requires Inv-loop μ-loop
-take-line-requires c κs = search needs
-
-add-at : tie.Need-add-at Inv-loop μ-loop
-add-at c =
-    let s = c .before .before .before .before .before .before .before .before .before .before .before .before .before .before .before .before .before .before .args .piece .now in
-    let at = c .before .before .before .before .before .before .before .before .before .before .before .before .before .before .loop .at in
-    let r = c .before .before .before .before .before .before .before .before .before .before .before .length-before .result in
-    let l : r ≤ length (take (length s - at) (drop at s)) = c .before .before .before .before .before .before .before .before .before .before .before .length-before .ensures .1 in
-    let n : at + r ≡ length s → ⊥ = c .before .before .before .before .before .if1 .left in
-    let k : length s ≤ 65536 = c .before .before .before .before .before .before .before .before .before .before .before .before .before .before .before .before .before .before .pre .3 in
-    let t : at < length s = c .before .before .before .before .before .before .before .before .before .before .before .before .before .loop-test .taken in
-    let x = length-take (length s - at) (drop at s) in
-    let y = length-drop at s in
-    omega (arith, l, n, k, t, x, y)
+take-line-requires c κs =
+    let l = c .before .before .before .before .before .before .before .before .before .loop in
+    let v = l .inv in
+    let k = v .3 in
+    let h = inside-after (c .before .before .before .before .before .before .take-part .ensures) (let a = v .0 in omega (arith, a, k)) in
+    let x = v .1 in
+    let y = v .4 in
+    (h, omega (arith, x, y), y)
 
 loop-less : tie.Need-loop-less Inv-loop μ-loop
-loop-less c = search needs
+loop-less c =
+    let a = c .before .before .before .before .before .before .before .before .before .before .before .before .before .before .before .before .args in
+    let l = c .before .before .before .before .before .before .before .before .before .before .before .before .loop in
+    let f = further (a .piece .now) (l .at) (c .before .before .before .before .before .before .before .before .before .take-part .ensures) (not-false (c .before .before .before .before .before .before .before .before .before .take-part .result .ended) (c .before .before .before .before .before .if1 .left)) in
+    let x = f .0 in
+    let y = f .1 in
+    omega (arith, x, y)
 
 loop-again : tie.Need-loop-again Inv-loop μ-loop
-loop-again c = search needs
+loop-again c =
+    let a = c .before .before .before .before .before .before .before .before .before .before .before .before .before .before .before .before .args in
+    let l = c .before .before .before .before .before .before .before .before .before .before .before .before .loop in
+    let f = further (a .piece .now) (l .at) (c .before .before .before .before .before .before .before .before .before .take-part .ensures) (not-false (c .before .before .before .before .before .before .before .before .before .take-part .result .ended) (c .before .before .before .before .before .if1 .left)) in
+    let z = c .before .before .take-line .ensures in
+    (let k = z .0 in omega (arith, k), z .1, f .1, puts-length (c .before .before .before .before .before .before .before .before .before .take-part .ensures .kept-is) ∙ l .inv .3, search needs)
 
 same-length-3 : tie.Need-same-length-3 Inv-loop μ-loop
 same-length-3 c = search needs
@@ -91,20 +94,11 @@ take-piece-spec =
     Inv-loop
     μ-loop
     loop-holds
-    sub-length-before
-    part-length-before-start
-    part-length-before-end
-    length-before-requires
-    add-e
-    sub-keep
-    part-keep-start
-    part-keep-end
-    keep-requires
+    take-part-requires
     same-length
     same-length-2
     returns
     take-line-requires
-    add-at
     loop-less
     loop-again
     same-length-3
