@@ -93,7 +93,7 @@ volume i b = getD (panelAt i b .w .settings) 2 0
 
 -- panel 1's volume at the two ends, and what panel 2 heard: nothing by UDP, "VOLUME 40", and REMOTE OFF
 ends : (volume 0 (run start one) ≡ 99) × (volume 0 (run start two) ≡ 40) × (replies 1 start one ≡ nothing ∷ backOn room told-40 ∷ nothing ∷ backOn room told-off ∷ [])
-unfolding configured asked askedAt rules.valid rules.okPanel rules.okIds rules.zeroIds rules.okW rules.okK rules.okInput rules.okInputs rules.okBalance rules.okGain rules.okBias rules.okShift rules.share rules.distinct nameOf names packetForms.isOurs hasIds isPair pairNumber byTcp target isCalled addressed door turn step packets.told packets.turned packets.bytesOf packets.packetOf packetForms.heardOf packetForms.isBroken number inBytes orders.carried orders.toldOf reading.readData reading.readSet reading.readGet reading.valueOrder reading.levelOf reading.isNumeral reading.leadsZero texts.textOf texts.setWords texts.valueWords decimals.isDigit decimals.decimal decimals.inDigits decimals.numeral words.namedBy words.ledBy words.chosenBy frameForms.lettersOf frameForms.nameOf frames.met frames.turned frames.turnOf frames.heardOf frames.isOurs frames.controlOf frames.upTo frames.switchOf frames.carried serial.told serial.turned serial.replyTo serial.bytesOf serial.frameOf serialForms.heardOf serialForms.isForeign serialForms.isBroken serialForms.commandOf serialOrders.carried sumOf
+unfolding configured asked askedAt rules.valid rules.okPanel rules.okIds rules.zeroIds rules.okW rules.okK rules.okInput rules.okInputs rules.okBalance rules.okGain rules.okBias rules.okShift rules.share rules.distinct nameOf names packetForms.isOurs hasIds isPair pairNumber byTcp target isCalled addressed door turn step packets.told packets.turned packets.bytesOf packets.packetOf packetForms.heardOf packetForms.isBroken number inBytes orders.carried orders.toldOf reading.readData reading.readSet reading.readGet reading.valueOrder decimals.upTo decimals.isNumeral decimals.leadsZero texts.textOf texts.setWords texts.valueWords decimals.isDigit decimals.decimal decimals.inDigits decimals.numeral words.namedBy words.ledBy words.chosenBy frameForms.lettersOf frameForms.nameOf frames.met frames.turned frames.turnOf frames.heardOf frames.isOurs frames.controlOf frames.upTo frames.switchOf frames.carried serial.told serial.turned serial.replyTo serial.bytesOf serial.frameOf serialForms.heardOf serialForms.isForeign serialForms.isBroken serialForms.commandOf serialOrders.carried sumOf
 ends = (refl, refl, refl)
 
 pub differ : run start one ≡ run start two → ⊥

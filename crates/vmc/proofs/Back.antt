@@ -11,12 +11,12 @@ use lib.IntN.{ℤ, pos, negsuc}
 use Rattle.laws.specs.Bytes.{ascii, same, begins}
 use Rattle.laws.specs.Lists.{everyBelow}
 use Rattle.laws.proofs.Table.{below, and-left, and-right}
-use Rattle.numbers.specs.Decimals.{isDigit, decimal, inDigits, numeral}
+use Rattle.numbers.specs.Decimals.{isDigit, decimal, leadsZero, isNumeral, upTo, inDigits, numeral}
 use Rattle.panels.specs.Valid.{okShift}
 use Rattle.laws.proofs.Conditions.{and-first}
 use Rattle.settings.specs.Table.{mosts}
 use Rattle.words.specs.Names.{nameOf, leadOf, namedBy, ledBy, chosenBy}
-use Rattle.vmc.specs.Reading.{leadsZero, isNumeral, levelOf, shiftOrder, valueOrder, readSet, readGet, readData}
+use Rattle.vmc.specs.Reading.{shiftOrder, valueOrder, readSet, readGet, readData}
 use Rattle.vmc.specs.Texts.{valueWords, shiftWords, setWords, moveWords}
 use Rattle.vmc.specs.declared.Order.the-variants.{Set, Shift, Reset, Get}
 use Rattle.vmc.specs.declared.Words.{Words}
@@ -59,7 +59,7 @@ is-set k v Strange t = absurd t
 
 -- the words that set a value are the order to set it
 pub set-back : (k v : ℕ) → k < 21 → v ≤ getD mosts k 0 → readData (ascii "STATset " ++ setWords k v) ≡ Understood (Set k v)
-unfolding isSet setsBack allSetBack readData readSet valueOrder levelOf isNumeral leadsZero isDigit decimal inDigits numeral ledBy chosenBy setWords valueWords
+unfolding isSet setsBack allSetBack readData readSet valueOrder upTo isNumeral leadsZero isDigit decimal inDigits numeral ledBy chosenBy setWords valueWords
 set-back k v h l = is-set k v _ (below (getD mosts k 0 + 1) (setsBack k) (below 21 allSetBack tt k h) v (omega arith))
 
 -- a shift, as its sign and its size less one below 0
@@ -86,7 +86,7 @@ allMoveBack : (ℕ → ℤ) → ℕ → ℕ → Bool
 allMoveBack f sizes axis = everyBelow sizes (movesBack f axis)
 
 pub move-back : (axis : ℕ) (z : ℤ) → axis < 2 → okShift z ≡ true → readData (ascii "STATset " ++ moveWords (21 + axis) z) ≡ Understood (Shift axis z)
-unfolding okShift sameZ isShift movesBack allMoveBack readData readSet valueOrder levelOf isNumeral leadsZero isDigit decimal inDigits numeral ledBy chosenBy shiftOrder moveWords shiftWords
+unfolding okShift sameZ isShift movesBack allMoveBack readData readSet valueOrder upTo isNumeral leadsZero isDigit decimal inDigits numeral ledBy chosenBy shiftOrder moveWords shiftWords
 move-back axis (pos n) h e = let l = leb-true n 30 e in is-shift axis (pos n) _ (below 31 (movesBack pos axis) (below 2 (allMoveBack pos 31) tt axis h) n (omega arith))
 move-back axis (negsuc n) h e = let l = leb-true n 29 (and-first (leb n 29) true e) in is-shift axis (negsuc n) _ (below 30 (movesBack negsuc axis) (below 2 (allMoveBack negsuc 30) tt axis h) n (omega arith))
 
@@ -98,7 +98,7 @@ allPlainBack : ℕ → Bool
 allPlainBack axis = everyBelow 31 (plainBack axis)
 
 pub plain-back : (axis n : ℕ) → axis < 2 → n ≤ 30 → readData (ascii "STATset " ++ leadOf (21 + axis) ++ numeral n) ≡ Understood (Shift axis (pos n))
-unfolding sameZ isShift plainBack allPlainBack readData readSet valueOrder levelOf isNumeral leadsZero isDigit decimal inDigits numeral ledBy chosenBy shiftOrder
+unfolding sameZ isShift plainBack allPlainBack readData readSet valueOrder upTo isNumeral leadsZero isDigit decimal inDigits numeral ledBy chosenBy shiftOrder
 plain-back axis n h l = is-shift axis (pos n) _ (below 31 (plainBack axis) (below 2 allPlainBack tt axis h) n (omega arith))
 
 pub reset-back : readData (ascii "STATset RESET") ≡ Understood Reset

@@ -6,12 +6,12 @@ use mathlib.Core.List.{List, [], _∷_, _++_, map}
 use lib.IntN.{pos, negsuc}
 use Rattle.laws.specs.Bytes.{ascii}
 use Rattle.laws.specs.Lists.{every}
-use Rattle.numbers.specs.Decimals.{isDigit, decimal, inDigits, numeral}
+use Rattle.numbers.specs.Decimals.{isDigit, decimal, leadsZero, isNumeral, upTo, inDigits, numeral}
 use Rattle.panels.specs.Records.{startW}
 use Rattle.panels.specs.declared.WRecord.{WRecord}
 use Rattle.words.specs.Names.{namedBy, ledBy, chosenBy}
 use Rattle.vmc.specs.Orders.{carried, toldOf}
-use Rattle.vmc.specs.Reading.{leadsZero, isNumeral, levelOf, shiftOrder, valueOrder, readSet, readGet, readData}
+use Rattle.vmc.specs.Reading.{shiftOrder, valueOrder, readSet, readGet, readData}
 use Rattle.vmc.specs.Texts.{valueWords, shiftWords, setWords, moveWords, textOf}
 use Rattle.vmc.specs.declared.Order.the-variants.{Set, Shift, Reset, Get}
 use Rattle.vmc.specs.declared.Told.the-variants.{Value, Offset}
@@ -29,7 +29,7 @@ reply Strange w = []
 
 -- * `STATset VOLUME 40`, "Then `STATget VOLUME`: length 9, `VOLUME 40`"
 bench-volume : reply (readData (ascii "STATget VOLUME")) (after (readData (ascii "STATset VOLUME 40")) startW) ≡ ascii "VOLUME 40"
-unfolding after reply readData readSet readGet valueOrder levelOf isNumeral leadsZero isDigit decimal inDigits numeral ledBy namedBy carried toldOf textOf setWords valueWords
+unfolding after reply readData readSet readGet valueOrder upTo isNumeral leadsZero isDigit decimal inDigits numeral ledBy namedBy carried toldOf textOf setWords valueWords
 bench-volume = refl
 
 -- "as `VOLUME 40`, `MODE2`, `CAMERA FOCUS OFF`, `SHIFTH +5`, `SHIFTH 0`"
@@ -70,7 +70,7 @@ taken-as : map readData taken ≡
     Understood (Get 5) ∷
     Understood (Get 18) ∷
     Understood (Get 22) ∷ []
-unfolding taken readData readSet readGet valueOrder levelOf isNumeral leadsZero isDigit decimal ledBy namedBy chosenBy shiftOrder
+unfolding taken readData readSet readGet valueOrder upTo isNumeral leadsZero isDigit decimal ledBy namedBy chosenBy shiftOrder
 taken-as = refl
 
 -- "101: 6", "-31 and -0: 6"; other signs, leading zeros, twenty digits (2 ^ 64 and 40)
@@ -149,5 +149,5 @@ strange d = isStrange (readData d)
 
 -- none of these is understood
 none-taken : every strange (numbers-off ++ spacing-off ++ words-off) ≡ true
-unfolding numbers-off spacing-off words-off isStrange strange readData readSet readGet valueOrder levelOf isNumeral leadsZero isDigit decimal ledBy namedBy chosenBy shiftOrder
+unfolding numbers-off spacing-off words-off isStrange strange readData readSet readGet valueOrder upTo isNumeral leadsZero isDigit decimal ledBy namedBy chosenBy shiftOrder
 none-taken = refl

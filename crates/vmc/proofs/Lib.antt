@@ -3,7 +3,6 @@ pub mod Back
 pub mod Determined
 mod Examples
 pub mod Kept
-mod Levels
 pub mod Only
 pub mod Phrases
 pub mod Plain

@@ -5,6 +5,7 @@ use mathlib.Core.Path.{_≡_, refl, sym, ap, subst, _∙_}
 use mathlib.Core.Bool.{Bool, true, false, cond, _&&_, _||_}
 use mathlib.Core.List.{List, [], _∷_, _++_}
 use native.Mathlib.Omega.{arith}
+use native.Mathlib.Nat.{pow-le-pow-right}
 use lib.Dec.{T, eqb, leb, ltb, eqb→eq}
 use lib.ListN.{length, getD, drop}
 use lib.IntN.{ℤ, pos, negsuc}
@@ -14,10 +15,11 @@ use Rattle.laws.proofs.Conditions.{and-first, and-second, false-true}
 use Rattle.laws.proofs.Lists.{same-is}
 use Rattle.laws.proofs.Table.{below}
 use Rattle.laws.proofs.Texts.{begins-front}
-use Rattle.numbers.specs.Decimals.{decimal, numeral}
+use Rattle.numbers.specs.Decimals.{decimal, isNumeral, upTo, numeral}
 use Rattle.numbers.specs.declared.Number.{Number}
 use Rattle.numbers.specs.declared.Number.the-variants.{Is, Not}
 use Rattle.numbers.proofs.Decimals.{decimal-fits, in-digits-decimal}
+use Rattle.numbers.proofs.Numerals.{numeral-digits, numeral-long}
 use Rattle.settings.specs.Table.{mosts}
 use Rattle.panels.specs.Valid.{okShift}
 use Rattle.words.specs.Names.{nameOf, leadOf, wordsOf, wordOf, namedBy, ledBy, chosenBy}
@@ -25,13 +27,12 @@ use Rattle.words.specs.declared.Found.{Found}
 use Rattle.words.specs.declared.Found.the-variants.{At, Nothing}
 use Rattle.words.proofs.Search.{Right, first-right}
 use Rattle.words.proofs.Choices.{led-right}
-use Rattle.vmc.specs.Reading.{isNumeral, levelOf, levelOrder, choiceOrder, shiftBy, shiftOrder, valueOrder, setOrder, readSet, getOrder, readGet, readData}
+use Rattle.vmc.specs.Reading.{levelOf, levelOrder, choiceOrder, shiftBy, shiftOrder, valueOrder, setOrder, readSet, getOrder, readGet, readData}
 use Rattle.vmc.specs.Texts.{valueWords, shiftWords, setWords, moveWords}
 use Rattle.vmc.specs.declared.Order.{Order}
 use Rattle.vmc.specs.declared.Order.the-variants.{Set, Shift, Reset, Get}
 use Rattle.vmc.specs.declared.Words.{Words}
 use Rattle.vmc.specs.declared.Words.the-variants.{Understood, Strange}
-use Rattle.vmc.proofs.Levels.{numeral-digits, numeral-long, four-digits}
 use Rattle.vmc.proofs.Back.{set-back, move-back, plain-back, reset-back, get-back}
 
 -- the words behind STATset, and what they order
@@ -68,6 +69,13 @@ carry P Q f Strange p = tt
 
 -- ---- levels: the words of a level are its numeral
 
+-- four digits or more write 1000 or more
+four-digits : (b : ℕ) (l : List ℕ) → isNumeral (b ∷ l) ≡ true → 3 ≤ length l → 1000 ≤ decimal (b ∷ l)
+four-digits b l e h =
+    let p : 10 ^ 3 ≤ 10 ^ length l = pow-le-pow-right {n = 10} (omega arith) h in
+    let k = numeral-long b l e (omega arith) in
+    omega (arith, p, k)
+
 numeral-is : (t : List ℕ) → isNumeral t ≡ true → decimal t ≤ 100 → t ≡ numeral (decimal t)
 unfolding isNumeral numeral
 numeral-is [] e h = absurd (false-true e)
@@ -95,7 +103,7 @@ Reads t (Is v) = Level t v
 Reads t Not = Unit {0}
 
 level-says : (t : List ℕ) → Reads t (levelOf t)
-unfolding levelOf
+unfolding upTo
 level-says t = go (isNumeral t && leb (decimal t) 100) refl
   where
     go : (b : Bool) → (isNumeral t && leb (decimal t) 100) ≡ b → Reads t (cond b (Is (decimal t)) Not)

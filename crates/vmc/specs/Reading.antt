@@ -1,13 +1,12 @@
 -- Document 01, "SDCP and VMC": what the words of the data ask.
 use Prim.Native.Nat.{ℕ, zero, suc, _-_}
-use mathlib.Core.Bool.{Bool, true, false, not, cond, _&&_}
+use mathlib.Core.Bool.{Bool, true, false, cond, _&&_}
 use mathlib.Core.List.{List}
-use lib.ListN.{length, getD, drop}
-use lib.Dec.{eqb, leb, ltb}
+use lib.ListN.{length, drop}
+use lib.Dec.{leb, ltb}
 use lib.IntN.{ℤ, pos, negsuc}
 use Rattle.laws.specs.Bytes.{ascii, same, begins}
-use Rattle.laws.specs.Lists.{every}
-use Rattle.numbers.specs.Decimals.{isDigit, decimal}
+use Rattle.numbers.specs.Decimals.{upTo}
 use Rattle.numbers.specs.declared.Number.{Number}
 use Rattle.numbers.specs.declared.Number.the-variants.{Is, Not}
 use Rattle.words.specs.Names.{leadOf, namedBy, ledBy, chosenBy}
@@ -17,17 +16,9 @@ use Rattle.vmc.specs.declared.Order.the-variants.{Set, Shift, Reset, Get
 use Rattle.vmc.specs.declared.Words.{Words}
 use Rattle.vmc.specs.declared.Words.the-variants.{Understood, Strange}
 
--- a leading zero: `0` alone has none
-unfoldable pub leadsZero : List ℕ → Bool
-leadsZero s = not (eqb (length s) 1) && eqb (getD s 0 0) 0x30
-
--- digits, with "no sign, no leading zero"
-unfoldable pub isNumeral : List ℕ → Bool
-isNumeral s = leb 1 (length s) && every isDigit s && not (leadsZero s)
-
 -- "0 to 100 (no sign, no leading zero)", or no number
-unfoldable pub levelOf : List ℕ → Number
-levelOf s = cond (isNumeral s && leb (decimal s) 100) (Is (decimal s)) Not
+abbrev pub levelOf : List ℕ → Number
+levelOf s = upTo 100 s
 
 abbrev pub levelOrder : ℕ → Number → Words
 levelOrder k (Is v) = Understood (Set k v)

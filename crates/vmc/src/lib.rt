@@ -1,9 +1,8 @@
 // VMC: what the words of a packet's data ask of a W panel, and the words that go back (document 01, "SDCP and VMC").
 use numbers::Number;
-use numbers::number_of;
 use numbers::numeral_of;
+use numbers::plain_number;
 use octets::begins_with;
-use octets::byte_at;
 use octets::lay;
 use octets::same_bytes;
 use panels::WRecord;
@@ -21,7 +20,7 @@ ghost use mathlib.Core.List.{_++_};
 ghost use lib.ListN.{length, set};
 ghost use Rattle.numbers.specs.Decimals.{numeral};
 ghost use Rattle.words.specs.Names.{leadOf, wordOf, chosenBy};
-ghost use Rattle.vmc.specs.Reading.{leadsZero, levelOf, signed, levelOrder, choiceOrder, shiftBy, shiftOrder, valueOrder, readSet, readGet, readData};
+ghost use Rattle.vmc.specs.Reading.{levelOf, signed, levelOrder, choiceOrder, shiftBy, shiftOrder, valueOrder, readSet, readGet, readData};
 ghost use Rattle.vmc.specs.Orders.{withSettings, withShifts, carried, toldOf};
 ghost use Rattle.vmc.specs.Texts.{sizeOf, signOf, shiftWords, setWords, textual, spelled};
 
@@ -56,33 +55,11 @@ pub struct Text {
     pub len: usize,
 }
 
-// A leading zero: `0` alone has none.
-fn leads_zero(s: &[u8]) -> bool
-    ensures { λ r. ⌜ r ≡ leadsZero (now (s .entry)) ⌝ }
-{
-    if s.len() == 1 {
-        return false;
-    }
-    byte_at(s, 0) == b'0'
-}
-
-// "0 to 100 (no sign, no leading zero)": the number, or none. More than three digits are over 100.
+// "0 to 100 (no sign, no leading zero)": the number, or none.
 fn level_of(s: &[u8]) -> Number
     ensures { λ r. ⌜ r ≡ levelOf (now (s .entry)) ⌝ }
 {
-    if 3 < s.len() {
-        return Number::Not;
-    }
-    if leads_zero(s) {
-        return Number::Not;
-    }
-    let Number::Is(v) = number_of(s) else {
-        return Number::Not;
-    };
-    if 100 < v {
-        return Number::Not;
-    }
-    Number::Is(v)
+    plain_number(s, 100)
 }
 
 // "A word that should be a number and is none ends the reading with 6."

@@ -3,8 +3,8 @@ use mathlib.Core.Path.{sym, ap, subst, _∙_}
 use Prim.Native.Nat.{_≤_}
 use borrow.Author.Needs.{needs}
 use native.Mathlib.Omega.{arith}
+use Rattle.numbers.proofs.Numerals.{Most, up-to-most}
 use Rattle.vmc.specs.Reading.{levelOrder}
-use Rattle.vmc.proofs.Levels.{Most, level-most}
 use Rattle.vmc.proofs.level_order.Statement.{statement}
 use Rattle.vmc.proofs.level_order.Tie as tie
 
@@ -23,7 +23,7 @@ returns c = ap (levelOrder (c .before .before .before .before .args .k)) (sym (c
 cast-t5 : tie.Need-cast-t5
 cast-t5 c =
     let s = c .before .before .before .before .before .args .s .now in
-    let h : c .before .v .given .0 .0 ≤ 100 = subst (Most 100) (sym (c .before .before .before .level-of .ensures) ∙ c .before .v .given .1) (level-most s) in
+    let h : c .before .v .given .0 .0 ≤ 100 = subst (Most 100) (sym (c .before .before .before .level-of .ensures) ∙ c .before .v .given .1) (up-to-most 100 s) in
     omega arith
 
 returns-2 : tie.Need-returns-2
