@@ -7,8 +7,8 @@ use Rattle.numbers.specs.Plain.{widthFrom, width, plain}
 use Rattle.sums.specs.Sums.{sumOf}
 use Rattle.panels.specs.Records.{noBox}
 use Rattle.panels.specs.Configure.{askedAt, asked, configured}
-use Rattle.panels.specs.Valid.{okShift, okGain, okBias, okInputs, okBalance, okW, okInput, okK, okIds, zeroIds, okPanel, share, distinct, valid}
-use Rattle.lines.specs.Words.{before, words, numberAt, isHexDigit, hexValue, isHex, bytesIn, bytesAt}
+use Rattle.panels.specs.Valid.{zeroIds, okPanel, valid}
+use Rattle.lines.specs.Words.{words, numberAt, isHexDigit, hexValue, isHex, bytesIn, bytesAt}
 use Rattle.lines.specs.Orders.{isFamily, isKind, shaped, asks, panelKinds, panelsIn, asksBox, configuration, configurationOf, orderIn, isPassedOver, orderOf}
 use Rattle.texts.specs.Texts.{said}
 use Rattle.script.specs.Answers.{writes, boxed, isThere, shownAt, summed, ordered, answered}

@@ -1,6 +1,5 @@
 -- docs/SCRIPTS.md, "Orders": what a line does to the box, and what it writes.
 use Prim.Native.Nat.{ℕ, _-_}
-use Prim.Native.String.{String}
 use mathlib.Core.Path.{_≡_}
 use mathlib.Core.Bool.{Bool, cond, _&&_}
 use mathlib.Core.List.{List, [], _∷_, _++_}

@@ -1,12 +1,6 @@
 -- `answer_advert` writes the fields of what was read, or the answer alone.
-use mathlib.Core.Path.{_≡_, sym, subst, ap, _∙_}
-use mathlib.Core.Bool.{Bool, cond}
-use mathlib.Core.List.{List}
-use lib.Dec.{eqb}
-use lib.ListN.{length}
-use borrow.Author.Tests.{eq-eqb, ne-eqb}
+use mathlib.Core.Path.{sym, subst, ap, _∙_}
 use Rattle.texts.proofs.Puts.{puts-then}
-use Rattle.terms.specs.Answers.{numberOf}
 use Rattle.sdap.specs.Rules.{readOf}
 use Rattle.script.specs.Answers.{Answers, Outcome, writes, readText}
 use Rattle.script.proofs.Carried.{read-refused, read-done}

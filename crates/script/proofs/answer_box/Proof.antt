@@ -1,7 +1,5 @@
 -- `answer_box` configures a box by the bytes that the line writes.
-use mathlib.Core.Path.{sym, subst, ap, _∙_}
-use mathlib.Core.List.{List}
-use lib.ListN.{length}
+use mathlib.Core.Path.{subst, ap, _∙_}
 use Rattle.panels.specs.Configure.{configured}
 use Rattle.script.specs.Answers.{Answers, Outcome, boxed}
 use Rattle.script.proofs.Lent.{front, front-length, front-fits}

@@ -1,9 +1,9 @@
 -- `answer_message` lends an area of A5h to the message that the line writes.
 use Prim.Native.Nat.{ℕ, _≤_}
-use mathlib.Core.Path.{_≡_, sym, subst, ap, _∙_}
+use mathlib.Core.Path.{_≡_, subst, ap, _∙_}
 use mathlib.Core.List.{List}
 use native.Mathlib.Omega.{arith}
-use lib.ListN.{length, replicate}
+use lib.ListN.{replicate}
 use Rattle.lines.specs.Words.{numberAt}
 use Rattle.lines.proofs.Laws.{number-most}
 use Rattle.script.specs.Answers.{Answers, Outcome, messaged}

@@ -1,8 +1,7 @@
 -- `answer_udp` hands on the bytes that the line writes, and writes the answer alone.
-use mathlib.Core.Path.{sym, subst, ap, _∙_}
+use mathlib.Core.Path.{subst, ap, _∙_}
 use mathlib.Core.List.{List}
 use Prim.Native.Nat.{ℕ}
-use lib.ListN.{length}
 use Rattle.steps.specs.Messages.{udp}
 use Rattle.steps.specs.Step.{step}
 use Rattle.script.specs.Answers.{Answers, Outcome, spread}

@@ -1,6 +1,5 @@
 -- `say_answer` puts the word and the number, and ends the text.
 use mathlib.Core.Path.{subst}
-use mathlib.Core.List.{List}
 use Prim.Native.Nat.{ℕ}
 use Rattle.texts.specs.Puts.{Puts}
 use Rattle.texts.specs.Texts.{said}

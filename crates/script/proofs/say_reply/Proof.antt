@@ -1,5 +1,5 @@
 -- `say_reply` puts the front of the area as the reply, looks at the rest, and ends the text.
-use Prim.Native.Nat.{ℕ, _-_, _≤_}
+use Prim.Native.Nat.{ℕ, _-_}
 use mathlib.Core.Path.{_≡_, subst, sym}
 use mathlib.Core.List.{List}
 use lib.ListN.{take, drop, length, length-drop}
