@@ -1,5 +1,5 @@
 mod Calls
 pub mod Determined
-mod Links
+pub mod Links
 mod Names
 mod Stores

@@ -1,4 +1,4 @@
--- What the C host is promised of the advert writer: document 01's answer number, and every byte of its area.
+-- What the C host is promised in numbers: of a message, and of the advert writer with every byte of its area.
 use Prim.Native.Nat.{ℕ}
 use mathlib.Core.Path.{_≡_}
 use mathlib.Core.List.{List, [], _∷_}
@@ -7,6 +7,8 @@ use Rattle.terms.specs.Answers.{numberOf}
 use Rattle.sdap.specs.Layout.{advertOf}
 use Rattle.sdap.specs.Rules.{writeAnswer, left}
 use Rattle.sdap.specs.declared.Advert.{Advert}
+use Rattle.ways.specs.Called.{Called}
+use Rattle.host.specs.declared.Outcome.{Outcome}
 
 -- the advert that the call's numbers and areas name
 abbrev pub fieldsFromC : ℕ → List ℕ → ℕ → ℕ → List ℕ → ℕ → ℕ → ℕ → ℕ → ℕ → ℕ → List ℕ → List ℕ → ℕ → ℕ → Advert
@@ -18,3 +20,7 @@ fieldsFromC category product serial power location connected accepted1 accepted2
 pub record WrittenForC (a : Advert) (area : List ℕ) (r : ℕ) (area′ : List ℕ) : Type 0 where
   pub answer : r ≡ numberOf (writeAnswer (length area) a)
   pub area-after : area′ ≡ left (writeAnswer (length area) a) a area
+
+-- what the host is told of a message: the answer's number and the reply's length
+abbrev pub outcomeOf : Called → Outcome
+outcomeOf c = record { answer = c .answer; len = c .len }

@@ -1,15 +1,70 @@
 // The calls for the C host: numbers and byte areas in, numbers out. include/display_box.h declares them.
+use panels::DisplayBox;
+use panels::Panel;
 use sdap::read_answer;
 use sdap::write_advert;
 use sums::sums_to_zero;
 use terms::GroupId;
 use terms::UnitId;
 use terms::number_of;
+use ways::make_box;
+use ways::panel_behind;
+use ways::take_message;
 ghost use mathlib.Core.Path.{_≡_};
 ghost use Rattle.terms.specs.Answers.{numberOf};
 ghost use Rattle.sums.specs.Sums.{sumsToZero};
 ghost use Rattle.sdap.specs.Rules.{readAnswer};
-ghost use Rattle.host.specs.Calls.{WrittenForC, fieldsFromC};
+ghost use Rattle.panels.specs.Configure.{configured};
+ghost use Rattle.ways.specs.Called.{called, panelBehind};
+ghost use Rattle.host.specs.Calls.{WrittenForC, fieldsFromC, outcomeOf};
+
+// What the host is told of a message: the answer's number, and the reply's length.
+#[repr(C)]
+pub struct Outcome {
+    pub answer: u8,
+    pub len: usize,
+}
+
+// A new box into the host's memory: three bytes a panel. The answer's number.
+#[no_mangle]
+pub extern "C" fn box_configure(b: &mut DisplayBox, configuration: &[u8]) -> u8
+    ensures { λ r. ⌜ (now (b .exit) ≡ configured (now (configuration .entry)) .made)
+        × (r ≡ numberOf (configured (now (configuration .entry)) .answer)) ⌝ }
+{
+    let m = make_box(configuration);
+    *b = m.made;
+    m.answer
+}
+
+// A message to the host's box, by the number of its way in.
+#[no_mangle]
+pub extern "C" fn box_take(
+    b: &mut DisplayBox,
+    way: u8,
+    link: usize,
+    m: &[u8],
+    area: &mut [u8],
+) -> Outcome
+    ensures { λ r. ⌜ (now (b .exit) ≡ called (now (b .entry)) way link (now (m .entry)) (now (area .entry)) .box)
+        × ((r ≡ outcomeOf (called (now (b .entry)) way link (now (m .entry)) (now (area .entry))))
+        × (now (area .exit) ≡ called (now (b .entry)) way link (now (m .entry)) (now (area .entry)) .area)) ⌝ }
+{
+    let t = take_message(*b, way, link, m, area);
+    *b = t.after;
+    Outcome {
+        answer: t.answer,
+        len: t.len,
+    }
+}
+
+// The panel behind a link of the host's box into the host's memory, or all zeros.
+#[no_mangle]
+pub extern "C" fn box_panel_at(b: &DisplayBox, link: usize, panel: &mut Panel)
+    ensures { λ _. ⌜ now (panel .exit) ≡ panelBehind (now (b .entry)) link ⌝ }
+{
+    let p = panel_behind(*b, link);
+    *panel = p;
+}
 
 // The checksum test.
 #[no_mangle]

@@ -439,7 +439,8 @@ fn fresh_panel(family: u8, group: u8, unit: u8) -> Panel
     }
 }
 
-fn zero_panel() -> Panel
+// A place that holds no panel: all zeros.
+pub fn zero_panel() -> Panel
     ensures { λ r. ⌜ r ≡ zeroPanel ⌝ }
 {
     Panel {

@@ -1,0 +1,4 @@
+mod Called
+pub mod Determined
+pub mod Host
+pub mod Life
