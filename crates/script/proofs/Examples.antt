@@ -11,7 +11,7 @@ use Rattle.panels.specs.Valid.{zeroIds, okPanel, valid}
 use Rattle.lines.specs.Words.{words, numberAt, isHexDigit, hexValue, isHex, bytesIn, bytesAt}
 use Rattle.lines.specs.Orders.{isFamily, isKind, shaped, asks, panelKinds, panelsIn, asksBox, configuration, configurationOf, orderIn, isPassedOver, orderOf}
 use Rattle.texts.specs.Texts.{said}
-use Rattle.script.specs.Answers.{writes, boxed, isThere, shownAt, summed, ordered, answered}
+use Rattle.orders.specs.Answers.{writes, boxed, isThere, shownAt, summed, ordered, answered}
 
 passed : answered noBox (ascii "# a remark") ≡ record { box = noBox; text = [] }
 unfolding answered ordered orderOf isPassedOver
