@@ -1,31 +1,49 @@
 /*
  * The display box, for its C host.
  *
- * These calls have no state of their own: no globals, no heap, no files, no
- * threads. Two of them may run at the same time in different threads, as long
- * as nothing else writes an area while a call reads it.
+ * The host owns the box's memory, opens the ports, and hands every message in;
+ * the box changes its record, writes the reply and gives a number. Every
+ * function that the archive has stands here; those declared static inline only
+ * give a shorter call.
+ *
+ * A first host:
+ *
+ *     static const uint8_t screens[] = { BOX_FAMILY_W, 1, 1, BOX_FAMILY_K, 0, 0 };
+ *     struct display_box box;
+ *     uint8_t area[BOX_AREA_LENGTH];
+ *
+ *     if (box_configure(&box, screens, sizeof screens) != BOX_DONE)
+ *         .. the configuration breaks a rule ..
+ *     struct box_outcome o = box_take_tcp(&box, 1, packet, packet_length, area, sizeof area);
+ *     .. write the first o.length bytes of area to the console; o.answer is for the log ..
+ *
+ * State. The archive has none: no globals, no heap, no files, no threads. All
+ * that is remembered is in the struct display_box that is handed in. So there
+ * may be as many boxes as a host likes, and none knows of another. Two calls may
+ * run at the same time in two threads where no area or box that one of them
+ * writes is read or written by the other; calls on one box are for the host to
+ * put in order.
  *
  * Areas. An area is a pointer and a length in bytes, in that order.
  *   - An empty area has length 0; its pointer may then be NULL.
  *   - NULL with any other length is forbidden: the call would read or write
  *     through it.
  *   - An area has no alignment: it may start at any byte.
- *   - A length is at most PTRDIFF_MAX, as for every object in C. Every length
- *     below that is taken, and every content.
- *   - The areas that a call only reads may overlap each other. The area that
- *     box_advert_write fills must not overlap any other area of that call.
+ *   - A length is at most PTRDIFF_MAX, as for every object in C. Every length up
+ *     to that is taken, and every content.
+ *   - Areas that a call only reads may overlap each other. What a call writes
+ *     (the area of box_take, the out of box_advert_write, the box of box_take and
+ *     box_configure, the panel of box_panel_at) must not overlap anything else
+ *     that is handed to that call. So a message is never its own reply's area.
+ *   - The pointers are used during the call only; none is kept.
  *
- * Answers (document 01, "Answer numbers"). These calls give
- *   0  carried out
- *   1  the area to fill is under 122 bytes
- *   3  wrong length: an advert that is not 122 bytes long, or a text area that
- *      is not of its 12 or 24 bytes
- *   4  not for us: wrong fixed bytes, or a category that is neither 0Bh
- *      (monitor) nor 0Ch (controller)
- *   5  power or error is neither 0 nor 1, or a text has a nonzero byte after
- *      a 00h
- * and no other number. Checks run in the order of the numbers, and the first
- * that applies is given.
+ * Boxes and panels. These pointers must not be NULL, and are aligned as their
+ * struct is (_Alignof(struct display_box) is 8): a variable of that type is, and
+ * what malloc gives is. Any bits are a box. One that breaks the rules is answered
+ * as a box of no panels, and comes back bit for bit as it was.
+ *
+ * Answers (document 01, "Answer numbers"): enum box_answer. Checks run in the
+ * order of the numbers, and the first that applies is given.
  */
 #ifndef DISPLAY_BOX_H
 #define DISPLAY_BOX_H
@@ -37,6 +55,205 @@
 #ifdef __cplusplus
 extern "C" {
 #endif
+
+/* ---- numbers */
+
+enum box_answer {
+    BOX_DONE = 0,              /* carried out */
+    BOX_AREA_TOO_SMALL = 1,    /* the reply area is under 512 bytes; box_advert_write: the area is under 122 */
+    BOX_NO_SUCH_PANEL = 2,     /* no panel with that link number, or it is of the other family; no such way in */
+    BOX_WRONG_LENGTH = 3,      /* too short to be a message, or a wrong fixed length */
+    BOX_NOT_FOR_US = 4,        /* not for us: wrong fixed bytes, or nobody is addressed */
+    BOX_ENVELOPE_WRONG = 5,    /* the envelope is wrong: a length, a checksum */
+    BOX_NOT_UNDERSTOOD = 6,    /* the contents are not understood */
+    BOX_BAD_CONFIGURATION = 7, /* box_configure alone: the configuration breaks a rule */
+};
+
+/* The ways in. Any other number is no way in, and is answered BOX_NO_SUCH_PANEL. */
+enum box_way {
+    BOX_WAY_RS232C = 1, /* the RS-232C port of the link's panel, which is of family W */
+    BOX_WAY_KJW = 2,    /* the KJW link of the link's panel, which is of family K */
+    BOX_WAY_TCP = 3,    /* SDCP by TCP on the link of a W panel */
+    BOX_WAY_UDP = 4,    /* SDCP by UDP, to every W panel or every one of a group; no link, no reply */
+};
+
+/* The reply area of box_take: at least so many bytes. No reply is longer. */
+#define BOX_AREA_LENGTH 512
+
+/* ---- the records, as they lie in memory: no padding anywhere */
+
+#define BOX_PANELS 8
+
+/* The family byte of a panel: the letters. A place that holds no panel has 0. */
+#define BOX_FAMILY_W 0x57
+#define BOX_FAMILY_K 0x4B
+
+/* A group is never taken for a unit, though each is one byte: 1 to 99 for a W panel, 0 for a K panel. */
+struct box_group { uint8_t id; };
+struct box_unit { uint8_t id; };
+
+/* The places of settings[] in a W record. */
+enum box_setting {
+    BOX_PHASE,  /* 0 to 100 */
+    BOX_CHROMA, /* 0 to 100 */
+    BOX_VOLUME, /* 0 to 100 */
+    BOX_MODE,   /* 0, 1, 2: MODE0, MODE1, MODE2 */
+    BOX_NTSC,   /* 0, 1: NTSC0, NTSC75 */
+    BOX_RGB_RANGE, /* 0, 1: FULL, LIMITED */
+    BOX_REMOTE, /* from here on switches: 0 OFF, 1 ON */
+    BOX_POWERSAVING,
+    BOX_KEYINHIBIT,
+    BOX_TALLYGREEN,
+    BOX_TALLYRED,
+    BOX_HVDELAY,
+    BOX_BLUEONLY,
+    BOX_MONOCHR,
+    BOX_CAMERA_FOCUS,
+    BOX_LED,
+    BOX_SCREENSAVER,
+    BOX_SILENTMODE,
+    BOX_FLIPH,
+    BOX_FLIPV,
+    BOX_FLIPHV,
+    BOX_SETTINGS /* how many there are: 21 */
+};
+
+/* The places of shifts[] in a W record: -30 to 30. */
+enum box_shift { BOX_SHIFTH, BOX_SHIFTV, BOX_SHIFTS };
+
+/*
+ * The inputs of a W panel. used is a connector's code: COMPOSITE 0, Y/C 2,
+ * RGB 4, COMPONENT 5, OPTION A-1 6, OPTION A-2 7, DVI 8, HD15 9, OPTION B-1 10,
+ * OPTION B-2 11. on[] has a place for each connector in that order: 0 OFF, 1 ON.
+ * preset is the white balance's: D93 0, USER 2, D65 3.
+ */
+#define BOX_CONNECTORS 10
+struct box_inputs {
+    uint8_t used;
+    uint8_t preset;
+    uint8_t on[BOX_CONNECTORS];
+};
+
+/* White balance, R, G, B: gains 0 to 4095, biases -1024 to 1023. */
+struct box_balance {
+    uint16_t gains[3];
+    int16_t biases[3];
+};
+
+/* The settings of a W panel. */
+struct box_w_record {
+    uint8_t settings[BOX_SETTINGS];
+    int8_t shifts[BOX_SHIFTS];
+    uint8_t spare; /* neither judged nor changed */
+    struct box_inputs inputs;
+    struct box_balance balance;
+};
+
+/*
+ * The settings of a K panel: switches 0 or 1, volume 0 to 100, scene 0 auto,
+ * 1 auto24pSync, 2 general; the input's type 1, 3, 4 or 5, and its port 1 to 9999.
+ */
+struct box_k_record {
+    uint8_t power;
+    uint8_t amut;
+    uint8_t pmut;
+    uint8_t volume;
+    uint8_t scene;
+    uint8_t kind;
+    uint16_t port;
+};
+
+/* A panel has both records; that of the other family is neither judged nor changed. */
+struct box_panel {
+    uint8_t family;
+    struct box_group group;
+    struct box_unit unit;
+    uint8_t spare; /* neither judged nor changed */
+    struct box_w_record w;
+    struct box_k_record k;
+};
+
+/*
+ * A box: 1 to 8 panels, numbered from 1 in the order given; that is also the link
+ * number. Places behind the last panel are neither judged nor changed. No two W
+ * panels share both IDs.
+ */
+struct display_box {
+    size_t count;
+    struct box_panel panels[BOX_PANELS];
+};
+
+/* ---- the box */
+
+/* What a message did: an answer of enum box_answer, and how many bytes of the area are the reply. */
+struct box_outcome {
+    uint8_t answer;
+    size_t length;
+};
+
+/*
+ * A new box: three bytes a panel, its family, its group and its unit. Gives
+ *   BOX_DONE               the box has those panels, each at its start values
+ *   BOX_BAD_CONFIGURATION  the configuration breaks a rule (no panel or more than
+ *                          8, another family, an ID out of range, two W panels
+ *                          with the same pair, a length that is no multiple of
+ *                          3); the box is all zeros then, a box of no panels
+ * What the box held before does not matter, and is gone either way.
+ */
+uint8_t box_configure(struct display_box *box, const uint8_t *configuration, size_t configuration_length);
+
+/*
+ * A message. Gives BOX_DONE to BOX_NOT_UNDERSTOOD, and the reply's length: the
+ * first so many bytes of area are to go back to the console, and 0 is no reply.
+ * A message that is not BOX_DONE can have a reply too.
+ *
+ * All of the area behind the reply keeps what it held; where the answer is not
+ * BOX_DONE, all of the box does too. When BOX_DONE is given, what was set stands
+ * in the box, but for two RS-232C orders that are acknowledged and ignored: to
+ * use a connector that is OFF, and to turn OFF the last one that is ON.
+ *
+ * By BOX_WAY_UDP the link and the area are not looked at: the link is any number,
+ * the area may be (NULL, 0), and the length is always 0.
+ */
+struct box_outcome box_take(struct display_box *box, uint8_t way, size_t link,
+                            const uint8_t *message, size_t message_length,
+                            uint8_t *area, size_t area_length);
+
+/* The ways in by name. */
+static inline struct box_outcome box_take_rs232c(struct display_box *box, size_t link,
+                                                 const uint8_t *message, size_t message_length,
+                                                 uint8_t *area, size_t area_length)
+{
+    return box_take(box, BOX_WAY_RS232C, link, message, message_length, area, area_length);
+}
+
+static inline struct box_outcome box_take_kjw(struct display_box *box, size_t link,
+                                              const uint8_t *message, size_t message_length,
+                                              uint8_t *area, size_t area_length)
+{
+    return box_take(box, BOX_WAY_KJW, link, message, message_length, area, area_length);
+}
+
+static inline struct box_outcome box_take_tcp(struct display_box *box, size_t link,
+                                              const uint8_t *message, size_t message_length,
+                                              uint8_t *area, size_t area_length)
+{
+    return box_take(box, BOX_WAY_TCP, link, message, message_length, area, area_length);
+}
+
+/* By UDP there is no reply, so the answer is all there is. */
+static inline uint8_t box_take_udp(struct display_box *box, const uint8_t *message, size_t message_length)
+{
+    return box_take(box, BOX_WAY_UDP, 0, message, message_length, NULL, 0).answer;
+}
+
+/*
+ * The panel behind a link, 1 to box->count, copied into *panel; all zeros where
+ * the box has no such panel or breaks the rules. The family tells: 0 is none.
+ */
+void box_panel_at(const struct display_box *box, size_t link, struct box_panel *panel);
+
+/* ---- adverts and checksums */
 
 /* The length of an SDAP advert, and of its texts. */
 #define BOX_ADVERT_LENGTH 122
@@ -50,19 +267,26 @@ extern "C" {
 bool box_checksum_ok(const uint8_t *area, size_t area_length);
 
 /*
- * The advert reader. Gives the answer number alone: 0, 3, 4 or 5.
+ * The advert reader. Gives the answer number alone:
+ *   BOX_DONE            an advert
+ *   BOX_WRONG_LENGTH    not 122 bytes
+ *   BOX_NOT_FOR_US      wrong fixed bytes, or a category that is neither 0Bh
+ *                       (monitor) nor 0Ch (controller)
+ *   BOX_ENVELOPE_WRONG  power or error is neither 0 nor 1, or a text has a
+ *                       nonzero byte after a 00h
  */
 uint8_t box_advert_read(const uint8_t *bytes, size_t bytes_length);
 
 /*
- * The advert writer. Gives 0, 1, 3, 4 or 5.
+ * The advert writer. Gives the reader's answers, BOX_WRONG_LENGTH for a text that
+ * is not of its length, or BOX_AREA_TOO_SMALL for an out under 122 bytes.
  *
  * product is 12 bytes; location, region and name are 24 bytes each, filled up
  * with 00h. Addresses are numbers, as 0xC0A80001 for 192.168.0.1. group and
  * unit may be any byte.
  *
- * On 0 the first 122 bytes of out are the advert, and those after keep what
- * they held. On any other answer every byte of out keeps what it held.
+ * On BOX_DONE the first 122 bytes of out are the advert, and those after keep
+ * what they held. On any other answer every byte of out keeps what it held.
  */
 uint8_t box_advert_write(uint8_t category,
                          const uint8_t *product, size_t product_length,

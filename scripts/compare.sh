@@ -1,17 +1,39 @@
-# Sourced by tests/compare and ./fuzz: the same script through the box and through the second program.
+# Sourced by tests/compare, tests/from_c and ./fuzz: the same script through the box and through the second program.
 # SECOND names another second program, to see the comparison fail.
 . scripts/machine.sh
+box=(run_program target/bin/replay)
 second=${SECOND:-second/target/release/second}
 generate=second/target/release/generate
 room=$(mktemp -d) || exit 2
 trap 'rm -rf "$room"' EXIT
+total=0
 
 # both SCRIPT: what each of them writes, in $room/box and $room/second; fails where that differs
 both() {
-    run_program target/bin/replay < "$1" > "$room/box" || echo "(the box ended with $?)" >> "$room/box"
+    "${box[@]}" < "$1" > "$room/box" || echo "(the box ended with $?)" >> "$room/box"
     "$second" < "$1" > "$room/second" || echo "(the second program ended with $?)" >> "$room/second"
     cmp -s "$room/box" "$room/second"
 }
 
 # orders SCRIPT: how many lines of it are orders
 orders() { grep -c '^[^#]' "$1"; }
+
+# compared NAME WORD..: the script that the generator writes for these words; its orders are counted in $total
+compared() {
+    local name=$1
+    shift
+    "$generate" "$@" > "$room/script"
+    total=$((total + $(orders "$room/script")))
+    both "$room/script" && return
+    echo "differs: $name; the first lines that do, of the box (<) and of the second program (>):"
+    diff "$room/box" "$room/second" | head -n 6
+    exit 1
+}
+
+# walked SEED..: the sweep, and 5,000 orders of each seed
+walked() {
+    local seed
+    compared 'the sweep' sweep
+    for seed; do compared "seed $seed" "$seed" 5000; done
+    echo "$total orders compared, every line the same"
+}

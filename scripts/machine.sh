@@ -47,16 +47,22 @@ END
     echo "$shadow"
 }
 
+# native_archive CRATE: the object of the crate's archive in target/native, made again only where the archive is newer
+native_archive() {
+    local object=$PWD/target/native/$1.o shadow
+    [ "$object" -nt "target/staticlib/lib$1.a" ] && return
+    shadow=$(shadow_kit "$object")
+    RATTLE_HOME=$shadow rt staticlib "$1" > "$object.log" 2>&1 || { cat "$object.log"; return 1; }
+    touch "$object"
+}
+
 # memcheck_program OUT FILE.c CRATE: the C program and the crate's archive in a form that valgrind can run
 memcheck_program() {
     if [ "$machine" = x86_64 ]; then
         gcc "${c_flags[@]}" "$2" "target/staticlib/lib$3.a" -o "$1"
         return
     fi
-    local object=$PWD/$1.module.o shadow
-    shadow=$(shadow_kit "$object")
-    RATTLE_HOME=$shadow rt staticlib "$3" > "$1.log" 2>&1 || { cat "$1.log"; return 1; }
-    gcc "${c_flags[@]}" "$2" "$object" -o "$1"
+    native_archive "$3" && gcc "${c_flags[@]}" "$2" "target/native/$3.o" -o "$1"
 }
 
 # native_program OUT PROGRAM: a program of this repository in a form that valgrind can run

@@ -1,49 +1,14 @@
 /*
- * Calls the box's three exports with good, bad, short, very long and empty
- * areas. Each area stands alone on the heap with its exact size, so that
- * valgrind's memcheck sees a byte read or written outside it. What is expected
- * is worked out here, from document 01's layout, and not taken from the box.
+ * Calls the advert reader, the advert writer and the checksum test with good,
+ * bad, short, very long and empty areas. Each area stands alone in memory with
+ * its exact size. What is expected is worked out here, from document 01's
+ * layout, and not taken from the box.
  */
-#include "display_box.h"
+#include "areas.h"
 
-#include <stdio.h>
-#include <stdlib.h>
-#include <string.h>
+#define MILLION ((size_t)1000000)
 
-static unsigned long asked, wrong;
-
-static void expect(int holds, const char *what, long a, long b)
-{
-    asked++;
-    if (holds)
-        return;
-    wrong++;
-    if (wrong <= 20)
-        printf("wrong: %s (%ld, %ld)\n", what, a, b);
-}
-
-/* A copy on the heap, of exactly that size; NULL for none. */
-static uint8_t *alone(const void *bytes, size_t n)
-{
-    if (n == 0)
-        return NULL;
-    uint8_t *p = malloc(n);
-    if (p == NULL)
-        exit(2);
-    if (bytes != NULL)
-        memcpy(p, bytes, n);
-    return p;
-}
-
-static uint32_t state = 20261115;
-
-static uint32_t next(void)
-{
-    state ^= state << 13;
-    state ^= state >> 17;
-    state ^= state << 5;
-    return state;
-}
+static struct place read_place, out_place, text_places[4];
 
 /* ---- the checksum test */
 
@@ -52,9 +17,8 @@ static void try_sum(const uint8_t *bytes, size_t n)
     unsigned long sum = 0;
     for (size_t i = 0; i < n; i++)
         sum += bytes[i];
-    uint8_t *p = alone(bytes, n);
+    uint8_t *p = stand_copy(&read_place, bytes, n);
     expect(box_checksum_ok(p, n) == (sum % 256 == 0), "sum", (long)n, (long)sum);
-    free(p);
 }
 
 static void sums(void)
@@ -68,8 +32,7 @@ static void sums(void)
 
     uint8_t bytes[700];
     for (size_t n = 1; n <= sizeof bytes; n++) {
-        for (size_t i = 0; i < n; i++)
-            bytes[i] = (uint8_t)next();
+        randomise(bytes, n);
         try_sum(bytes, n);
         unsigned long sum = 0;
         for (size_t i = 0; i + 1 < n; i++)
@@ -78,16 +41,12 @@ static void sums(void)
         try_sum(bytes, n);
     }
 
-    size_t million = 1000000;
-    uint8_t *long_area = calloc(million, 1);
-    if (long_area == NULL)
-        exit(2);
-    expect(box_checksum_ok(long_area, million), "a million zeros", 0, 0);
-    long_area[million - 1] = 1;
-    expect(!box_checksum_ok(long_area, million), "a one at the end", 0, 0);
-    memset(long_area, 255, million);
-    expect(box_checksum_ok(long_area, million) == (million * 255 % 256 == 0), "a million 255", 0, 0);
-    free(long_area);
+    uint8_t *long_area = stand_filled(&read_place, 0, MILLION);
+    expect(box_checksum_ok(long_area, MILLION), "a million zeros", 0, 0);
+    long_area[MILLION - 1] = 1;
+    expect(!box_checksum_ok(long_area, MILLION), "a one at the end", 0, 0);
+    memset(long_area, 255, MILLION);
+    expect(box_checksum_ok(long_area, MILLION) == (MILLION * 255 % 256 == 0), "a million 255", 0, 0);
 }
 
 /* ---- the advert reader */
@@ -125,10 +84,8 @@ static int reading(const uint8_t *b, size_t n)
 
 static void try_read(const uint8_t *bytes, size_t n)
 {
-    uint8_t *p = alone(bytes, n);
-    int got = box_advert_read(p, n);
+    int got = box_advert_read(stand_copy(&read_place, bytes, n), n);
     expect(got == reading(bytes, n), "read", got, (long)n);
-    free(p);
 }
 
 /* Document 000's example. */
@@ -168,13 +125,9 @@ static void reads(void)
             try_read(one, 122);
         }
 
-    size_t million = 1000000;
-    uint8_t *long_area = calloc(million, 1);
-    if (long_area == NULL)
-        exit(2);
+    uint8_t *long_area = stand_filled(&read_place, 0, MILLION);
     example(long_area);
-    expect(box_advert_read(long_area, million) == 3, "a million bytes", 0, 0);
-    free(long_area);
+    expect(box_advert_read(long_area, MILLION) == 3, "a million bytes", 0, 0);
 }
 
 /* ---- the advert writer */
@@ -232,23 +185,17 @@ static int call_write(const struct fields *f, uint8_t *out, size_t room)
 {
     uint8_t *t[4];
     for (size_t i = 0; i < 4; i++)
-        t[i] = alone(f->text[i], f->length[i]);
-    int got = box_advert_write(f->category, t[0], f->length[0], f->serial, f->power, t[1], f->length[1],
-                               f->ip[0], f->ip[1], f->ip[2], f->ip[3], f->ip[4], f->error,
-                               t[2], f->length[2], t[3], f->length[3], f->group, f->unit, out, room);
-    for (size_t i = 0; i < 4; i++)
-        free(t[i]);
-    return got;
+        t[i] = stand_copy(&text_places[i], f->text[i], f->length[i]);
+    return box_advert_write(f->category, t[0], f->length[0], f->serial, f->power, t[1], f->length[1],
+                            f->ip[0], f->ip[1], f->ip[2], f->ip[3], f->ip[4], f->error,
+                            t[2], f->length[2], t[3], f->length[3], f->group, f->unit, out, room);
 }
 
 static void try_write(const struct fields *f, size_t room)
 {
-    uint8_t *out = alone(NULL, room);
-    uint8_t *want = alone(NULL, room);
-    if (room) {
-        memset(out, 0xA5, room);
-        memset(want, 0xA5, room);
-    }
+    uint8_t want[512];
+    uint8_t *out = stand_filled(&out_place, 0xA5, room);
+    memset(want, 0xA5, sizeof want);
     int answer = writing(f, room);
     if (answer == 0)
         laid(f, want);
@@ -257,8 +204,6 @@ static void try_write(const struct fields *f, size_t room)
     expect(room == 0 || memcmp(out, want, room) == 0, "area after write", got, (long)room);
     if (answer == 0)
         expect(box_advert_read(out, 122) == 0, "written, then read", (long)room, 0);
-    free(out);
-    free(want);
 }
 
 static struct fields good(void)
@@ -304,7 +249,8 @@ static struct fields slipped(unsigned slips)
     return f;
 }
 
-static void writes(void)
+/* every slip in every area, every length of a text, every byte and many flags */
+static void walked_writes(void)
 {
     static const size_t rooms[] = { 0, 1, 121, 122, 123, 512 };
     for (unsigned slips = 0; slips < 256; slips++) {
@@ -335,6 +281,10 @@ static void writes(void)
             f.error = flags[j];
             try_write(&f, 122);
         }
+}
+
+static void random_writes(void)
+{
     for (int i = 0; i < 2000; i++) {
         struct fields f = good();
         f.serial = next();
@@ -350,35 +300,37 @@ static void writes(void)
             f.text[next() % 4][next() % 12] = 0;
         try_write(&f, 122 + next() % 8);
     }
+}
 
-    /* a very long text and a very long area */
-    size_t million = 1000000;
+static int all_kept(const uint8_t *bytes, size_t n)
+{
+    for (size_t i = 0; i < n; i++)
+        if (bytes[i] != 0xA5)
+            return 0;
+    return 1;
+}
+
+static void long_writes(void)
+{
     struct fields f = good();
-    uint8_t *out = malloc(million);
-    uint8_t *long_text = calloc(million, 1);
-    if (out == NULL || long_text == NULL)
-        exit(2);
-    memset(out, 0xA5, million);
-    int got = call_write(&f, out, million);
-    int kept = 1;
-    for (size_t i = 122; i < million; i++)
-        kept &= out[i] == 0xA5;
-    expect(got == 0 && kept, "a million bytes of room", got, kept);
-    memset(out, 0xA5, 122);
-    got = box_advert_write(0x0B, long_text, million, 1, 0, f.text[1], 24, 0, 0, 0, 0, 0, 0, f.text[2], 24, f.text[3], 24, 1, 1, out, 122);
-    kept = 1;
-    for (size_t i = 0; i < 122; i++)
-        kept &= out[i] == 0xA5;
-    expect(got == 3 && kept, "a text of a million bytes", got, kept);
-    free(out);
-    free(long_text);
+    uint8_t *out = stand_filled(&out_place, 0xA5, MILLION);
+    int got = call_write(&f, out, MILLION);
+    expect(got == 0 && all_kept(out + 122, MILLION - 122), "a million bytes of room", got, 0);
+
+    out = stand_filled(&out_place, 0xA5, 122);
+    got = box_advert_write(0x0B, stand_filled(&text_places[0], 0, MILLION), MILLION, 1, 0, f.text[1], 24,
+                           0, 0, 0, 0, 0, 0, f.text[2], 24, f.text[3], 24, 1, 1, out, 122);
+    expect(got == 3 && all_kept(out, 122), "a text of a million bytes", got, 0);
 }
 
 int main(void)
 {
-    sums();
-    reads();
-    writes();
-    printf("%lu calls checked, %lu wrong\n", asked, wrong);
-    return wrong == 0 ? 0 : 1;
+    for (standing = 0; standing < STANDINGS; standing++) {
+        sums();
+        reads();
+        walked_writes();
+        random_writes();
+        long_writes();
+    }
+    return verdict();
 }

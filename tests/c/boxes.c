@@ -1,0 +1,576 @@
+/*
+ * The calls on boxes, from C: boxes that break the rules, two boxes at once,
+ * every way in and every number that is none, every length of message, area and
+ * configuration, and the bench examples. Box, message and area stand alone in
+ * memory with their exact sizes. What is expected is worked out here, from
+ * document 01, and not taken from the box.
+ */
+#include "areas.h"
+#include "messages.h"
+
+#define LENGTH_OF(list) (sizeof (list) / sizeof (list)[0])
+#define LONGEST 65535
+
+static struct place box_place, other_place, message_place, area_place, panel_place;
+static const struct display_box no_panels;
+
+/* ---- what document 01 says of a message whose contents are never understood */
+
+struct told {
+    uint8_t answer;
+    size_t length;
+    uint8_t reply[64];
+};
+
+static struct told told(uint8_t answer, const void *reply, size_t length)
+{
+    struct told t = { answer, length, { 0 } };
+    memcpy(t.reply, reply, length);
+    return t;
+}
+
+static struct told quiet(uint8_t answer) { return told(answer, "", 0); }
+
+/* "RS-232C NAK" goes with 5 and with 6. */
+static struct told rs232c_told(const uint8_t *m, size_t n)
+{
+    if (n < 6)
+        return quiet(3);
+    if (m[0] != 0x02 || m[2] != 0x01 || m[3] < 0x41 || m[3] > 0x7F)
+        return quiet(4);
+    int is_whole = m[1] == n - 3 && m[n - 1] == checksum_of(m + 1, n - 2);
+    struct message nak = frame_between(m[3], 0x01, "\x05", 1);
+    return told(is_whole ? 6 : 5, nak.bytes, nak.length);
+}
+
+static struct told kjw_told(const uint8_t *m, size_t n)
+{
+    if (n != 24)
+        return quiet(3);
+    if (m[0] != '*' || m[1] != 'S' || (m[2] != 'C' && m[2] != 'E') || m[23] != '\n')
+        return quiet(4);
+    struct message refusal = kjw_frame("A????FFFFFFFFFFFFFFFF");
+    memcpy(refusal.bytes + 3, m + 3, 4);
+    return told(6, refusal.bytes, refusal.length);
+}
+
+static int is_id(uint8_t id) { return id >= 1 && id <= 99; }
+
+/*
+ * "TCP: 0/0 is the link's own panel; 1..99/1..99 is the W panel with that pair.
+ * UDP: 1..99/FFh is every W panel of that group; FFh/FFh every W panel."
+ */
+static int is_anybody_called(const struct display_box *box, uint8_t way, uint8_t group, uint8_t unit)
+{
+    if (way == BOX_WAY_TCP && group == 0 && unit == 0)
+        return 1;
+    for (size_t i = 0; i < box->count; i++) {
+        const struct box_panel *p = &box->panels[i];
+        if (p->family != BOX_FAMILY_W)
+            continue;
+        if (way == BOX_WAY_TCP && is_id(group) && is_id(unit) && p->group.id == group && p->unit.id == unit)
+            return 1;
+        if (way == BOX_WAY_UDP && unit == 0xFF && (group == 0xFF || (is_id(group) && p->group.id == group)))
+            return 1;
+    }
+    return 0;
+}
+
+/* By TCP NG goes with 5 and OK without data with 6; by UDP nothing. */
+static struct told sdcp_told(const struct display_box *box, uint8_t way, const uint8_t *m, size_t n)
+{
+    if (n < 13)
+        return quiet(3);
+    if (memcmp(m, "\x03\x0BSONY", 6) != 0 || !is_anybody_called(box, way, m[6], m[7]))
+        return quiet(4);
+    size_t length = (size_t)m[11] * 256 + m[12];
+    int is_whole = m[8] == 0x00 && m[9] == 0xB0 && m[10] == 0x00 && length <= 499 && length == n - 13;
+    if (way == BOX_WAY_UDP)
+        return quiet(is_whole ? 6 : 5);
+    uint8_t reply[15] = { 0, 0, 0, 0, 0, 0, 0, 0, is_whole, m[9], m[10], 0, is_whole ? 0 : 2, 0xF0, 0x50 };
+    memcpy(reply, m, 8);
+    return told(is_whole ? 6 : 5, reply, is_whole ? 13 : 15);
+}
+
+/* A box that breaks the rules is told as the box of no panels. The numbers that are no way in are 2, by this project's decision. */
+static struct told told_of(const struct display_box *box, uint8_t way, size_t link, const uint8_t *m, size_t n, size_t room)
+{
+    if (way == BOX_WAY_UDP)
+        return sdcp_told(box, way, m, n);
+    if (way < BOX_WAY_RS232C || way > BOX_WAY_UDP)
+        return quiet(2);
+    if (room < 512)
+        return quiet(1);
+    uint8_t family = way == BOX_WAY_KJW ? BOX_FAMILY_K : BOX_FAMILY_W;
+    if (link < 1 || link > box->count || box->panels[link - 1].family != family)
+        return quiet(2);
+    if (way == BOX_WAY_TCP)
+        return sdcp_told(box, way, m, n);
+    return way == BOX_WAY_KJW ? kjw_told(m, n) : rs232c_told(m, n);
+}
+
+/* ---- a message is handed over */
+
+static int is_filled(const uint8_t *bytes, size_t n, uint8_t value)
+{
+    for (size_t i = 0; i < n; i++)
+        if (bytes[i] != value)
+            return 0;
+    return 1;
+}
+
+static int is_same(const void *a, const void *b, size_t n) { return n == 0 || memcmp(a, b, n) == 0; }
+
+/* Answer, reply, the area behind it, the message and the box afterwards are as told. */
+static void takes(const struct display_box *before, uint8_t way, size_t link, const uint8_t *bytes, size_t n, size_t room,
+                  const struct told *want, const struct display_box *after)
+{
+    struct display_box *box = stand_copy(&box_place, before, sizeof *before);
+    const uint8_t *message = stand_copy(&message_place, bytes, n);
+    uint8_t *area = stand_filled(&area_place, 0xA5, room);
+    struct box_outcome o = box_take(box, way, link, message, n, area, room);
+    expect(o.answer == want->answer, "answer, and the one expected", o.answer, want->answer);
+    expect(o.length == want->length, "length, and the one expected", (long)o.length, (long)want->length);
+    expect(is_same(area, want->reply, want->length), "the reply's bytes", way, (long)n);
+    expect(room == 0 || is_filled(area + want->length, room - want->length, 0xA5), "the area behind the reply", way, (long)room);
+    expect(is_same(message, bytes, n), "the message is left", way, (long)n);
+    expect(is_same(box, after, sizeof *box), "the box afterwards", way, (long)n);
+}
+
+/* A message that is never carried out, to a box that is told as the second one: it comes back bit for bit. */
+static void refuses(const struct display_box *box, const struct display_box *told_as, uint8_t way, size_t link,
+                    const uint8_t *bytes, size_t n, size_t room)
+{
+    struct told want = told_of(told_as, way, link, bytes, n, room);
+    takes(box, way, link, bytes, n, room, &want, box);
+}
+
+static void shows(const struct display_box *box, size_t link, const struct box_panel *want)
+{
+    const struct display_box *b = stand_copy(&box_place, box, sizeof *box);
+    struct box_panel *panel = stand_filled(&panel_place, 0xA5, sizeof *panel);
+    box_panel_at(b, link, panel);
+    expect(is_same(panel, want, sizeof *want), "the panel that is shown", (long)link, panel->family);
+    expect(is_same(b, box, sizeof *box), "a look leaves the box", (long)link, 0);
+}
+
+/* ---- messages of every length */
+
+enum shape { ZEROS, TWOS, RISING, WHOLE, LENGTH_WRONG, SPOILED, SHAPES };
+
+/* The front that a message of that way has; what follows is no command, no letters and no words. */
+static void lay_whole(uint8_t *m, size_t n, uint8_t way)
+{
+    static const uint8_t fronts[][13] = {
+        [BOX_WAY_RS232C] = { 0x02, 0, 0x01, 0x41, 0xFF },
+        [BOX_WAY_KJW] = { '*', 'S', 'C' },
+        [BOX_WAY_TCP] = { 0x03, 0x0B, 'S', 'O', 'N', 'Y', 0x00, 0x00, 0x00, 0xB0, 0x00 },
+        [BOX_WAY_UDP] = { 0x03, 0x0B, 'S', 'O', 'N', 'Y', 0xFF, 0xFF, 0x00, 0xB0, 0x00 },
+    };
+    memset(m, 0, n);
+    memcpy(m, fronts[way], n < 13 ? n : 13);
+    if (way == BOX_WAY_RS232C && n >= 6) {
+        m[1] = (uint8_t)(n - 3);
+        m[n - 1] = checksum_of(m + 1, n - 2);
+    }
+    if (way == BOX_WAY_KJW && n > 0)
+        m[n - 1] = '\n';
+    if (way >= BOX_WAY_TCP && n >= 13) {
+        m[11] = (uint8_t)((n - 13) >> 8);
+        m[12] = (uint8_t)(n - 13);
+    }
+}
+
+static void lay(uint8_t *m, size_t n, uint8_t way, enum shape shape)
+{
+    size_t length_at = way == BOX_WAY_RS232C ? 1 : 12;
+    lay_whole(m, n, way);
+    if (shape < WHOLE)
+        for (size_t i = 0; i < n; i++)
+            m[i] = shape == ZEROS ? 0 : shape == TWOS ? 2 : (uint8_t)(2 + i);
+    if (shape == LENGTH_WRONG && n >= 13) {
+        m[length_at]++;
+        m[n - 1]--;
+    }
+    if (shape == SPOILED && n > 0)
+        m[n - 1]++;
+}
+
+/* Over 258 bytes no byte count fits, over 512 no data length; 24 is a KJW frame's only length. */
+static void every_length(void)
+{
+    static const size_t long_ones[] = { 1024, 4099, 65534, LONGEST };
+    static uint8_t m[LONGEST];
+    struct display_box box = box_of("WK");
+    for (uint8_t way = BOX_WAY_RS232C; way <= BOX_WAY_UDP; way++)
+        for (enum shape shape = 0; shape < SHAPES; shape++) {
+            size_t link = way == BOX_WAY_KJW ? 2 : 1;
+            for (size_t n = 0; n <= 600; n++) {
+                lay(m, n, way, shape);
+                refuses(&box, &box, way, link, m, n, BOX_AREA_LENGTH);
+            }
+            for (size_t i = 0; i < LENGTH_OF(long_ones); i++) {
+                lay(m, long_ones[i], way, shape);
+                refuses(&box, &box, way, link, m, long_ones[i], BOX_AREA_LENGTH);
+            }
+        }
+}
+
+/* ---- ways, links, areas and addresses */
+
+/* The larger ones are links of a panel where 8 or 32 bits are kept, or where the place's offset wraps. */
+static const size_t links[] = { 0, 1, 2, 3, 8, 9, 257, ((size_t)1 << 32) + 1, SIZE_MAX / sizeof(struct box_panel) + 2, SIZE_MAX };
+
+/* Every number for a way, on every link, in areas that are too small and in some that are not. */
+static void every_way(void)
+{
+    static const size_t rooms[] = { 0, 1, 511, 512, 600 };
+    struct display_box box = box_of("WKW");
+    for (unsigned way = 0; way < 256; way++)
+        for (size_t l = 0; l < LENGTH_OF(links); l++)
+            for (size_t r = 0; r < LENGTH_OF(rooms); r++) {
+                struct message none = sdcp_packet(0, 0, ""), set = sdcp_packet(0, 0, "STATset VOLUME 40");
+                refuses(&box, &box, (uint8_t)way, links[l], none.bytes, none.length, rooms[r]);
+                refuses(&box, &box, (uint8_t)way, links[l], none.bytes, 0, rooms[r]);
+                if (way < BOX_WAY_RS232C || way > BOX_WAY_UDP)
+                    refuses(&box, &box, (uint8_t)way, links[l], set.bytes, set.length, rooms[r]);
+            }
+}
+
+/* Too small an area refuses what would be carried out; any other has the reply at its front. */
+static void every_area(void)
+{
+    static const uint8_t volume[] = "\x03\x0BSONY\0\0\x01\xB0\0\0\x09VOLUME 30";
+    static const char accepted[] = "*SAPOWR0000000000000000\n*SNPOWR0000000000000001\n";
+    struct display_box box = box_of("WK"), on = box;
+    on.panels[1].k.power = 1;
+    struct message get = sdcp_packet(0, 0, "STATget VOLUME"), power = kjw_frame("CPOWR0000000000000001");
+    struct message remote = rs232c_frame("\x6E", 1), is_on = frame_between(0x41, 0x01, "\x7E\x01", 2);
+    struct told small = quiet(1), got = told(0, volume, 22), powered = told(0, accepted, 48);
+    struct told asked_for = told(0, is_on.bytes, is_on.length);
+    for (size_t room = 0; room <= 600; room++) {
+        int fits = room >= 512;
+        takes(&box, BOX_WAY_TCP, 1, get.bytes, get.length, room, fits ? &got : &small, &box);
+        takes(&box, BOX_WAY_RS232C, 1, remote.bytes, remote.length, room, fits ? &asked_for : &small, &box);
+        takes(&box, BOX_WAY_KJW, 2, power.bytes, power.length, room, fits ? &powered : &small, fits ? &on : &box);
+    }
+}
+
+/* "UDP skips 1 and 2": a broadcast is carried out whatever link and area are. */
+static void udp_looks_at_neither(void)
+{
+    static const size_t rooms[] = { 0, 1, 511, 512, 600 };
+    struct message m = sdcp_packet(0xFF, 0xFF, "STATset VOLUME 40");
+    struct told done = quiet(0);
+    struct display_box box = box_of("WKW"), after = box;
+    after.panels[0].w.settings[BOX_VOLUME] = 40;
+    after.panels[2].w.settings[BOX_VOLUME] = 40;
+    for (size_t l = 0; l < LENGTH_OF(links); l++)
+        for (size_t r = 0; r < LENGTH_OF(rooms); r++)
+            takes(&box, BOX_WAY_UDP, links[l], m.bytes, m.length, rooms[r], &done, &after);
+}
+
+/* Groups and units at every edge; 11/21 and 13/23 are the W panels' own. */
+static void addresses(void)
+{
+    static const uint8_t ids[] = { 0, 1, 10, 11, 12, 13, 14, 20, 21, 22, 23, 24, 99, 100, 254, 255 };
+    struct display_box box = box_of("WKW");
+    for (size_t g = 0; g < sizeof ids; g++)
+        for (size_t u = 0; u < sizeof ids; u++) {
+            struct message m = sdcp_packet(ids[g], ids[u], "STATset");
+            for (size_t link = 0; link <= 4; link++)
+                refuses(&box, &box, BOX_WAY_TCP, link, m.bytes, m.length, BOX_AREA_LENGTH);
+            refuses(&box, &box, BOX_WAY_UDP, 0, m.bytes, m.length, 0);
+        }
+}
+
+/* An empty area is (NULL, 0) everywhere else in this file; here it stands at the end of another. */
+static void empty_but_not_null(void)
+{
+    struct display_box box = box_of("WK");
+    struct message m = sdcp_packet(0, 0, "STATget VOLUME");
+    uint8_t *area = stand(&area_place, BOX_AREA_LENGTH);
+    uint8_t *ends = (uint8_t *)stand(&message_place, 1) + 1;
+    expect(box_take_tcp(&box, 1, ends, 0, area, BOX_AREA_LENGTH).answer == 3, "an empty packet", 0, 0);
+    expect(box_take_rs232c(&box, 1, ends, 0, area, BOX_AREA_LENGTH).answer == 3, "an empty RS-232C frame", 0, 0);
+    expect(box_take_kjw(&box, 2, ends, 0, area, BOX_AREA_LENGTH).answer == 3, "an empty KJW frame", 0, 0);
+    expect(box_take_udp(&box, ends, 0) == 3, "an empty broadcast", 0, 0);
+    expect(box_take_tcp(&box, 1, m.bytes, m.length, ends, 0).answer == 1, "an empty area", 0, 0);
+    expect(box_configure(&box, ends, 0) == 7, "an empty configuration", 0, 0);
+}
+
+/* ---- boxes that break the rules */
+
+/* One field of the first (W) or the second (K) panel out of its range, or a pair that is shared. */
+static void break_a_rule(struct display_box *box, size_t rule)
+{
+    struct box_panel *w = &box->panels[0], *k = &box->panels[1];
+    switch (rule) {
+    case 0: w->family = 'X'; break;
+    case 1: w->group.id = 0; break;
+    case 2: w->unit.id = 100; break;
+    case 3: w->w.settings[BOX_PHASE] = 101; break;
+    case 4: w->w.settings[BOX_MODE] = 3; break;
+    case 5: w->w.settings[BOX_FLIPHV] = 2; break;
+    case 6: w->w.shifts[BOX_SHIFTV] = -31; break;
+    case 7: w->w.inputs.used = 1; break;
+    case 8: w->w.inputs.preset = 1; break;
+    case 9: w->w.inputs.on[9] = 2; break;
+    case 10: w->w.balance.gains[0] = 4096; break;
+    case 11: w->w.balance.biases[2] = 1024; break;
+    case 12: k->family = 0; break;
+    case 13: k->group.id = 1; break;
+    case 14: k->unit.id = 1; break;
+    case 15: k->k.power = 2; break;
+    case 16: k->k.volume = 101; break;
+    case 17: k->k.scene = 3; break;
+    case 18: k->k.kind = 2; break;
+    case 19: k->k.port = 0; break;
+    case 20: k->k.port = 10000; break;
+    case 21: box->panels[7].group = w->group, box->panels[7].unit = w->unit; break;
+    default: exit(2);
+    }
+}
+#define RULES 22
+
+/* Through every way in, with messages that a box that keeps the rules would carry out, and such as are too short. */
+static void is_a_box_of_no_panels(const struct display_box *box)
+{
+    static const size_t rooms[] = { 0, 511, 512, 600 };
+    static const struct box_panel none;
+    const struct message sent[] = {
+        [BOX_WAY_RS232C] = rs232c_frame("\x22\x12", 2),
+        [BOX_WAY_KJW] = kjw_frame("CPOWR0000000000000001"),
+        [BOX_WAY_TCP] = sdcp_packet(0, 0, "STATset VOLUME 40"),
+        [BOX_WAY_UDP] = sdcp_packet(0xFF, 0xFF, "STATset VOLUME 40"),
+    };
+    for (uint8_t way = BOX_WAY_RS232C; way <= BOX_WAY_UDP; way++)
+        for (size_t l = 0; l < LENGTH_OF(links); l++)
+            for (size_t r = 0; r < LENGTH_OF(rooms); r++) {
+                refuses(box, &no_panels, way, links[l], sent[way].bytes, sent[way].length, rooms[r]);
+                refuses(box, &no_panels, way, links[l], sent[way].bytes, 5, rooms[r]);
+                refuses(box, &no_panels, way, links[l], NULL, 0, rooms[r]);
+            }
+    for (size_t l = 0; l < LENGTH_OF(links); l++)
+        shows(box, links[l], &none);
+}
+
+static void broken_boxes(void)
+{
+    static const size_t counts[] = { 0, 9, 200, SIZE_MAX };
+    struct display_box box;
+    is_a_box_of_no_panels(&no_panels);
+    memset(&box, 0xFF, sizeof box);
+    is_a_box_of_no_panels(&box);
+    for (size_t i = 0; i < LENGTH_OF(counts); i++) {
+        box = box_of("WKWKWKWW");
+        box.count = counts[i];
+        is_a_box_of_no_panels(&box);
+    }
+    for (size_t rule = 0; rule < RULES; rule++) {
+        box = box_of("WKWKWKWW");
+        break_a_rule(&box, rule);
+        is_a_box_of_no_panels(&box);
+    }
+    for (size_t turn = 0; turn < 20; turn++) {
+        randomise(&box, sizeof box);
+        if (turn % 2 == 0)
+            box.count = 1 + turn % BOX_PANELS;
+        is_a_box_of_no_panels(&box);
+    }
+}
+
+/* ---- configurations */
+
+static int breaks_a_rule(const uint8_t *c, size_t n)
+{
+    if (n == 0 || n % 3 != 0 || n / 3 > BOX_PANELS)
+        return 1;
+    for (size_t i = 0; i < n; i += 3) {
+        int is_w = c[i] == 'W' && is_id(c[i + 1]) && is_id(c[i + 2]);
+        int is_k = c[i] == 'K' && c[i + 1] == 0 && c[i + 2] == 0;
+        if (!is_w && !is_k)
+            return 1;
+        for (size_t j = 0; j < i; j += 3)
+            if (is_w && c[j] == 'W' && memcmp(c + i + 1, c + j + 1, 2) == 0)
+                return 1;
+    }
+    return 0;
+}
+
+/* A box over those bytes; what the box held before is gone. */
+static struct display_box configured(const uint8_t *c, size_t n, int answer)
+{
+    struct display_box *box = stand(&box_place, sizeof *box), first = no_panels;
+    int got = box_configure(&first, stand_copy(&message_place, c, n), n);
+    expect(got == answer, "configuration", got, (long)n);
+    randomise(box, sizeof *box);
+    got = box_configure(box, stand_copy(&message_place, c, n), n);
+    expect(got == answer, "configuration over random bits", got, (long)n);
+    expect(is_same(box, &first, sizeof first), "the box does not hang on what was there", (long)n, answer);
+    return first;
+}
+
+/* What the start values are is for layout.c; here which panels the box has, and that it is all zeros with 7. */
+static void configures(const uint8_t *c, size_t n)
+{
+    int is_refused = breaks_a_rule(c, n);
+    struct display_box box = configured(c, n, is_refused ? 7 : 0);
+    if (is_refused) {
+        expect(is_same(&box, &no_panels, sizeof box), "with 7 the box is all zeros", (long)n, 0);
+        return;
+    }
+    expect(box.count == n / 3, "count", (long)box.count, (long)n);
+    for (size_t i = 0; i < n / 3; i++)
+        expect(is_same(&box.panels[i], c + 3 * i, 3), "family, group and unit", (long)i, (long)n);
+    for (size_t l = 0; l < LENGTH_OF(links); l++)
+        shows(&box, links[l], links[l] >= 1 && links[l] <= box.count ? &box.panels[links[l] - 1] : &no_panels.panels[0]);
+}
+
+static void configurations(void)
+{
+    static uint8_t longest[LONGEST];
+    uint8_t c[30];
+    size_t panels = configuration_of("WKWKWWWKWK", c) / 3;
+    for (size_t n = 0; n <= 3 * panels; n++)
+        configures(c, n);
+    for (size_t at = 0; at < 24; at++)
+        for (int value = 0; value < 256; value++) {
+            configuration_of("WKWKWWWKWK", c);
+            c[at] = (uint8_t)value;
+            configures(c, 24);
+            memcpy(c + at - at % 3 + 1, c + (at < 12 ? 19 : 1), 2);
+            configures(c, 24);
+        }
+    for (size_t i = 0; i < LONGEST; i += 3)
+        longest[i] = 'K';
+    configures(longest, LONGEST);
+    configures(longest, LONGEST - 1);
+}
+
+/* ---- two boxes at once */
+
+/* A random message on a random link, as the seed gives them: some are carried out, some refused. */
+static void random_message(struct display_box *box, uint32_t *seed)
+{
+    static const char *const data[] = { "STATset VOLUME 40", "STATset VOLUME 7", "STATset SHIFTH -30",
+                                        "STATset LED ON", "STATget MODE", "STATset MODE2" };
+    static const char *const frames[] = { "CPOWR0000000000000001", "CTPMU################",
+                                          "CVOLU0000000000000077", "ESCEN################" };
+    static const uint8_t blocks[][4] = { { 0x22, 0x12 }, { 0x22, 0x30 }, { 0x21, 0x03, 0x28 }, { 0x40, 0x01, 0x34, 0x02 } };
+    static const size_t block_lengths[] = { 2, 2, 3, 4 };
+    state = *seed;
+    uint8_t way = (uint8_t)(1 + next() % 4);
+    size_t link = next() % 6, which = next() % 4;
+    struct message m = kjw_frame(frames[which]);
+    if (way == BOX_WAY_RS232C)
+        m = rs232c_frame(blocks[which], block_lengths[which]);
+    if (way == BOX_WAY_TCP)
+        m = sdcp_packet(0, 0, data[next() % LENGTH_OF(data)]);
+    if (way == BOX_WAY_UDP)
+        m = sdcp_packet(next() % 2 == 0 ? 0xFF : (uint8_t)(11 + next() % 5), 0xFF, data[next() % LENGTH_OF(data)]);
+    uint8_t *area = stand_filled(&area_place, 0xA5, BOX_AREA_LENGTH);
+    box_take(box, way, link, stand_copy(&message_place, m.bytes, m.length), m.length, area, BOX_AREA_LENGTH);
+    *seed = state;
+}
+
+/* Messages to two boxes in turn leave the other bit for bit, and each box as if it had been alone. */
+static void two_boxes(void)
+{
+    struct display_box first = box_of("WKWWK"), second = box_of("KWKW");
+    struct display_box *boxes[] = { stand_copy(&box_place, &first, sizeof first), stand_copy(&other_place, &second, sizeof second) };
+    struct display_box *alone[] = { &first, &second };
+    uint32_t seeds[] = { 11, 22 }, seeds_alone[] = { 11, 22 }, turns[] = { 0, 0 }, choice = 33;
+    for (int turn = 0; turn < 2000; turn++) {
+        state = choice;
+        size_t mine = next() % 2;
+        choice = state;
+        struct display_box other = *boxes[1 - mine];
+        random_message(boxes[mine], &seeds[mine]);
+        turns[mine]++;
+        expect(is_same(boxes[1 - mine], &other, sizeof other), "the other box is left", turn, (long)mine);
+    }
+    for (size_t i = 0; i < 2; i++) {
+        struct display_box start = *alone[i];
+        for (uint32_t turn = 0; turn < turns[i]; turn++)
+            random_message(alone[i], &seeds_alone[i]);
+        expect(is_same(boxes[i], alone[i], sizeof start), "a box among others is as one alone", (long)i, 0);
+        expect(!is_same(&start, alone[i], sizeof start), "some messages were carried out", (long)i, 0);
+    }
+}
+
+/* ---- what was tried at the bench */
+
+static void nothing(struct display_box *b) { (void)b; }
+static void gain_and_bias(struct display_box *b)
+{
+    b->panels[0].w.balance.gains[0] = 4095;
+    b->panels[0].w.balance.biases[2] = -1024;
+}
+static void volume_40(struct display_box *b) { b->panels[0].w.settings[BOX_VOLUME] = 40; }
+static void volume_100(struct display_box *b) { b->panels[0].w.settings[BOX_VOLUME] = 100; }
+static void shift_30(struct display_box *b) { b->panels[0].w.shifts[BOX_SHIFTH] = -30; }
+static void power(struct display_box *b) { b->panels[1].k.power = 1; }
+
+#define BYTES(text) text, sizeof text - 1
+#define SDCP(request, length) "\x03\x0BSONY\0\0" request "\xB0\0\0" length
+#define OK SDCP("\1", "\0")
+
+static const struct tried {
+    uint8_t way;
+    const char *bytes;
+    size_t length;
+    uint8_t answer;
+    const char *reply;
+    size_t reply_length;
+    void (*change)(struct display_box *);
+} bench[] = {
+    { BOX_WAY_RS232C, BYTES("\x02\x03\x01\x41\x6E\x4D"), 0, BYTES("\x02\x04\x41\x01\x7E\x01\x3B"), nothing },
+    { BOX_WAY_RS232C, BYTES("\x02\x08\x01\x41\x40\x21\xFF\x0F\x00\x04\x43"), 0,
+      BYTES("\x02\x03\x41\x01\x04\xB7"), gain_and_bias },
+    { BOX_WAY_RS232C, BYTES("\x02\x03\x01\x41\x6E\x4E"), 5, BYTES("\x02\x03\x41\x01\x05\xB6"), nothing },
+    { BOX_WAY_TCP, BYTES(SDCP("\0", "\x11") "STATset VOLUME 40"), 0, BYTES(OK), volume_40 },
+    { BOX_WAY_TCP, BYTES(SDCP("\0", "\x0E") "STATget VOLUME"), 0, BYTES(SDCP("\1", "\x09") "VOLUME 40"), nothing },
+    { BOX_WAY_TCP, BYTES(SDCP("\0", "\x12") "STATset VOLUME 100"), 0, BYTES(OK), volume_100 },
+    { BOX_WAY_TCP, BYTES(SDCP("\0", "\x12") "STATset VOLUME 101"), 6, BYTES(OK), nothing },
+    { BOX_WAY_TCP, BYTES(SDCP("\0", "\x12") "STATset SHIFTH -30"), 0, BYTES(OK), shift_30 },
+    { BOX_WAY_TCP, BYTES(SDCP("\0", "\x12") "STATset SHIFTH -31"), 6, BYTES(OK), nothing },
+    { BOX_WAY_TCP, BYTES(SDCP("\0", "\x11") "STATset SHIFTH -0"), 6, BYTES(OK), nothing },
+    { BOX_WAY_TCP, BYTES(SDCP("\1", "\x11") "STATset VOLUME 40"), 5, BYTES(SDCP("\0", "\2") "\xF0\x50"), nothing },
+    { BOX_WAY_TCP, BYTES("\x03\x0Bsony\0\0\0\xB0\0\0\x11STATset VOLUME 40"), 4, BYTES(""), nothing },
+    { BOX_WAY_KJW, BYTES("*SCPOWR0000000000000001\n"), 0,
+      BYTES("*SAPOWR0000000000000000\n*SNPOWR0000000000000001\n"), power },
+    { BOX_WAY_KJW, BYTES("*SCPOWR0000000000000001\n"), 0, BYTES("*SAPOWR0000000000000000\n"), nothing },
+    { BOX_WAY_KJW, BYTES("*SCINPT0000000100000000\n"), 6, BYTES("*SAINPTFFFFFFFFFFFFFFFF\n"), nothing },
+};
+
+/* On one box, one after the other. That a data length of 499 passes and 500 does not is in every_length. */
+static void at_the_bench(void)
+{
+    struct display_box box = box_of("WK");
+    for (size_t i = 0; i < LENGTH_OF(bench); i++) {
+        const struct tried *t = &bench[i];
+        struct told want = told(t->answer, t->reply, t->reply_length);
+        struct display_box after = box;
+        t->change(&after);
+        takes(&box, t->way, t->way == BOX_WAY_KJW ? 2 : 1, (const uint8_t *)t->bytes, t->length, BOX_AREA_LENGTH, &want, &after);
+        box = after;
+    }
+}
+
+int main(void)
+{
+    for (standing = 0; standing < STANDINGS; standing++) {
+        every_length();
+        every_way();
+        every_area();
+        udp_looks_at_neither();
+        addresses();
+        empty_but_not_null();
+        broken_boxes();
+        configurations();
+        two_boxes();
+        at_the_bench();
+    }
+    return verdict();
+}
