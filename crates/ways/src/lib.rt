@@ -1,4 +1,4 @@
-// The box as a C host calls it, by value: a message by the number of its way in, and the panel behind a link.
+// The box as a C host calls it, by value: a configuration, a message by the number of its way in, and the panel behind a link.
 use display::Told;
 use display::take_kjw;
 use display::take_rs232c;
