@@ -8,7 +8,7 @@ use lib.ListN.{length}
 use Rattle.panels.specs.declared.DisplayBox.{DisplayBox}
 use Rattle.steps.specs.Messages.{Message, names}
 use Rattle.steps.specs.Step.{panelAt}
-use Rattle.steps.specs.Run.{run, kept}
+use Rattle.steps.specs.Run.{run, kept, replies}
 use Rattle.steps.proofs.Alone.{demand-3}
 use Rattle.ways.specs.Called.{Called, called}
 use Rattle.ways.specs.Life.{Call, afterCall, life, andThat, messagesOf}
@@ -28,8 +28,10 @@ pub life-is-run : (b : DisplayBox) (ks : List Call) → life b ks ≡ run b (mes
 life-is-run b [] = refl
 life-is-run b (k ∷ ks) = life-is-run (afterCall b k) ks ∙ one-call b (messagesOf ks) k
 
--- demand 3 of a host's box: two lives with the same messages to a panel leave it the same record
+-- demand 3 of a host's box: two lives with the same messages to a panel leave it the same record, and the same went back for these
 pub lives-alone : (b : DisplayBox) (i : ℕ) (ks ls : List Call) → i < length (b .panels)
-    → kept i (names b) (messagesOf ks) ≡ kept i (names b) (messagesOf ls) → panelAt i (life b ks) ≡ panelAt i (life b ls)
+    → kept i (names b) (messagesOf ks) ≡ kept i (names b) (messagesOf ls)
+    → (panelAt i (life b ks) ≡ panelAt i (life b ls)) × (replies i b (messagesOf ks) ≡ replies i b (messagesOf ls))
 lives-alone b i ks ls h e =
-    ap (panelAt i) (life-is-run b ks) ∙ demand-3 b i (messagesOf ks) (messagesOf ls) h e .0 ∙ sym (ap (panelAt i) (life-is-run b ls))
+    let same = demand-3 b i (messagesOf ks) (messagesOf ls) h e in
+    (ap (panelAt i) (life-is-run b ks) ∙ same .0 ∙ sym (ap (panelAt i) (life-is-run b ls)), same .1)
