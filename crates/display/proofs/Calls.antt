@@ -14,10 +14,10 @@ use Rattle.panels.specs.declared.Panel.{Panel}
 use Rattle.panels.specs.declared.DisplayBox.{DisplayBox}
 use Rattle.vmc.specs.Orders.{carried}
 use Rattle.vmc.specs.declared.Order.{Order}
-use Rattle.sdcp.specs.Packets.{heardOf}
+use Rattle.sdcp_asks.specs.Packets.{heardOf}
 use Rattle.sdcp.specs.Replies.{answerOf, turned}
-use Rattle.sdcp.specs.declared.Heard.{Heard}
-use Rattle.sdcp.specs.declared.Heard.the-variants.{Refused, Broken, Strange, Understood}
+use Rattle.sdcp_asks.specs.declared.Heard.{Heard}
+use Rattle.sdcp_asks.specs.declared.Heard.the-variants.{Refused, Broken, Strange, Understood}
 use Rattle.steps.specs.Messages.{udp, Name, nobody, nameOf, names}
 use Rattle.steps.specs.Addressing.{isCalled, addressed, anyCalled}
 use Rattle.steps.specs.Step.{withW, withPanels, toNobody, door, turn, nothing, passed, refused, step}
@@ -39,16 +39,16 @@ pub data Idle : Heard → Type 0 where
   broken : Idle Broken
   strange : Idle Strange
 
-idle-turn : (h : Heard) (p : Panel) → Idle h → withW p (turned h (p .w) .after) ≡ p
+idle-turn : (m : List ℕ) (h : Heard) (p : Panel) → Idle h → withW p (turned m h (p .w) .after) ≡ p
 unfolding turned
-idle-turn _ p (refusing a) = refl
-idle-turn _ p broken = refl
-idle-turn _ p strange = refl
+idle-turn m _ p (refusing a) = refl
+idle-turn m _ p broken = refl
+idle-turn m _ p strange = refl
 
 pub idle : (b : DisplayBox) (m : List ℕ) (h : Heard) → anyCalled m (names b) ≡ true → heardOf m ≡ h → Idle h → step b (udp m) ≡ record { box = b; answer = answerOf h; back = nothing }
 unfolding turn
 idle b m h e q i =
-    let s : each (addressed (names b) (udp m)) (λ (p : Panel). turn (udp m) p .panel) (b .panels) ≡ b .panels = each-same (addressed (names b) (udp m)) (λ (p : Panel). turn (udp m) p .panel) (b .panels) (λ p. ap (λ (x : Heard). withW p (turned x (p .w) .after)) q ∙ idle-turn h p i) in
+    let s : each (addressed (names b) (udp m)) (λ (p : Panel). turn (udp m) p .after) (b .panels) ≡ b .panels = each-same (addressed (names b) (udp m)) (λ (p : Panel). turn (udp m) p .after) (b .panels) (λ p. ap (λ (x : Heard). withW p (turned m x (p .w) .after)) q ∙ idle-turn m h p i) in
     called b m e
     ∙ ap (λ (ps : List Panel). record { box = withPanels b ps; answer = answerOf (heardOf m); back = nothing }) s
     ∙ ap (λ (x : Heard). record { box = b; answer = answerOf x; back = nothing }) q
@@ -62,9 +62,9 @@ same (p ∷ ps) called f g e = rw (e p, same ps (λ (i : ℕ). called (suc i)) f
 pub obeyed : (b : DisplayBox) (m : List ℕ) (o : Order) → valid b ≡ true → anyCalled m (names b) ≡ true → heardOf m ≡ Understood o → step b (udp m) ≡ record { box = withPanels b (firstEach (heeded m o) (b .count) (b .panels)); answer = Done; back = nothing }
 unfolding turn turned addressed isCalled heeded
 obeyed b m o v e q =
-    let f : (p : Panel) → turn (udp m) p .panel ≡ withW p (carried o (p .w)) = λ p. ap (λ (x : Heard). withW p (turned x (p .w) .after)) q in
-    let s : each (addressed (names b) (udp m)) (λ (p : Panel). turn (udp m) p .panel) (b .panels) ≡ firstEach (heeded m o) (b .count) (b .panels) =
-    same (b .panels) (addressed (names b) (udp m)) (λ (p : Panel). turn (udp m) p .panel) (λ (p : Panel). withW p (carried o (p .w))) f
+    let f : (p : Panel) → turn (udp m) p .after ≡ withW p (carried o (p .w)) = λ p. ap (λ (x : Heard). withW p (turned m x (p .w) .after)) q in
+    let s : each (addressed (names b) (udp m)) (λ (p : Panel). turn (udp m) p .after) (b .panels) ≡ firstEach (heeded m o) (b .count) (b .panels) =
+    same (b .panels) (addressed (names b) (udp m)) (λ (p : Panel). turn (udp m) p .after) (λ (p : Panel). withW p (carried o (p .w))) f
     ∙ ap (λ (ns : List Name). each (λ (i : ℕ). isCalled m (getD ns i nobody)) (λ (p : Panel). withW p (carried o (p .w))) (b .panels)) (valid-names b v)
     ∙ first-called nameOf (isCalled m) nobody (λ (p : Panel). withW p (carried o (p .w))) refl (b .count) (b .panels) in
     called b m e

@@ -45,7 +45,7 @@ Lent (udp m) = ⊥
 -- what one panel's turn makes of the box
 abbrev pub stored : DisplayBox → Message → ℕ → Outcome
 stored b m i = record {
-  box = withPanels b (set (b .panels) i (turn m (panelAt i b) .panel));
+  box = withPanels b (set (b .panels) i (turn m (panelAt i b) .after));
   answer = turn m (panelAt i b) .answer;
   back = back m (turn m (panelAt i b) .reply);
 }
@@ -55,9 +55,9 @@ one-store t f ps h k = each-one (λ (i : ℕ). eqb t (suc i)) f ps (t - 1) pastE
 
 passed-store : (b : DisplayBox) (m : Message) → Lent m → 1 ≤ target (names b) m → target (names b) m ≤ length (b .panels) → passed (names b) b m ≡ stored b m (target (names b) m - 1)
 unfolding addressed
-passed-store b (rs232c l m area) n h k = ap (λ (ps : List Panel). record { box = withPanels b ps; answer = turn (rs232c l m area) (panelAt (target (names b) (rs232c l m area) - 1) b) .answer; back = back (rs232c l m area) (turn (rs232c l m area) (panelAt (target (names b) (rs232c l m area) - 1) b) .reply) }) (one-store (target (names b) (rs232c l m area)) (λ (p : Panel). turn (rs232c l m area) p .panel) (b .panels) h k)
-passed-store b (kjw l m area) n h k = ap (λ (ps : List Panel). record { box = withPanels b ps; answer = turn (kjw l m area) (panelAt (target (names b) (kjw l m area) - 1) b) .answer; back = back (kjw l m area) (turn (kjw l m area) (panelAt (target (names b) (kjw l m area) - 1) b) .reply) }) (one-store (target (names b) (kjw l m area)) (λ (p : Panel). turn (kjw l m area) p .panel) (b .panels) h k)
-passed-store b (tcp l m area) n h k = ap (λ (ps : List Panel). record { box = withPanels b ps; answer = turn (tcp l m area) (panelAt (target (names b) (tcp l m area) - 1) b) .answer; back = back (tcp l m area) (turn (tcp l m area) (panelAt (target (names b) (tcp l m area) - 1) b) .reply) }) (one-store (target (names b) (tcp l m area)) (λ (p : Panel). turn (tcp l m area) p .panel) (b .panels) h k)
+passed-store b (rs232c l m area) n h k = ap (λ (ps : List Panel). record { box = withPanels b ps; answer = turn (rs232c l m area) (panelAt (target (names b) (rs232c l m area) - 1) b) .answer; back = back (rs232c l m area) (turn (rs232c l m area) (panelAt (target (names b) (rs232c l m area) - 1) b) .reply) }) (one-store (target (names b) (rs232c l m area)) (λ (p : Panel). turn (rs232c l m area) p .after) (b .panels) h k)
+passed-store b (kjw l m area) n h k = ap (λ (ps : List Panel). record { box = withPanels b ps; answer = turn (kjw l m area) (panelAt (target (names b) (kjw l m area) - 1) b) .answer; back = back (kjw l m area) (turn (kjw l m area) (panelAt (target (names b) (kjw l m area) - 1) b) .reply) }) (one-store (target (names b) (kjw l m area)) (λ (p : Panel). turn (kjw l m area) p .after) (b .panels) h k)
+passed-store b (tcp l m area) n h k = ap (λ (ps : List Panel). record { box = withPanels b ps; answer = turn (tcp l m area) (panelAt (target (names b) (tcp l m area) - 1) b) .answer; back = back (tcp l m area) (turn (tcp l m area) (panelAt (target (names b) (tcp l m area) - 1) b) .reply) }) (one-store (target (names b) (tcp l m area)) (λ (p : Panel). turn (tcp l m area) p .after) (b .panels) h k)
 passed-store b (udp m) n h k = absurd n
 
 -- a message that the door lets in is the turn of the panel it is meant for

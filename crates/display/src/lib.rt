@@ -5,9 +5,9 @@ use panels::KRecord;
 use panels::Panel;
 use panels::WRecord;
 use panels::is_valid;
-use sdcp::Heard;
-use sdcp::hear;
-use sdcp::is_ours;
+use sdcp_asks::Heard;
+use sdcp_asks::hear;
+use sdcp_asks::is_ours;
 use sdcp::take_packet;
 use terms::Answer;
 use terms::GroupId;
@@ -28,6 +28,7 @@ ghost use Rattle.steps.specs.Messages.{nameOf, names};
 ghost use Rattle.steps.specs.Addressing.{hasIds, isId, isPair, pairNumber, byTcp, isCalled, anyCalled};
 ghost use Rattle.steps.specs.Step.{withW, withK, withPanels, panelAt, toNobody};
 ghost use Rattle.steps.specs.Messages as messages;
+ghost use Rattle.vmc.specs.Orders.{carried};
 ghost use Rattle.display.specs.Promise.{Steps, isOn, heeded};
 
 // What a message did: the box after it, the answer, and the reply's length.
@@ -322,13 +323,10 @@ fn any_called(m: &[u8], ps: [Panel; 8], n: usize) -> bool
     false
 }
 
-// A panel heeds an order where it is called.
-fn heed(m: &[u8], o: Order, p: Panel) -> Panel
-    ensures { λ r. ⌜ r ≡ heeded (now (m .entry)) o p ⌝ }
+// A panel after an order.
+fn obeyed(o: Order, p: Panel) -> Panel
+    ensures { λ r. ⌜ r ≡ withW p (carried o (p .w)) ⌝ }
 {
-    if !is_called(m, p) {
-        return p;
-    }
     let w = p.w;
     let next = obey(w, o);
     let mut q = p;
@@ -345,8 +343,10 @@ fn obey_all(m: &[u8], o: Order, ps: [Panel; 8], n: usize) -> [Panel; 8]
     let mut i = 0;
     while i < n {
         let p = qs[i];
-        let q = heed(m, o, p);
-        qs[i] = q;
+        if is_called(m, p) {
+            let q = obeyed(o, p);
+            qs[i] = q;
+        }
         i += 1;
     }
     qs

@@ -18,6 +18,8 @@ use Rattle.terms.specs.declared.Answer.{Answer}
 use Rattle.sums.specs.Sums.{sumsToZero}
 use Rattle.numbers.specs.Decimals.{inDigits, numeral}
 use Rattle.numbers.specs.Plain.{widthFrom, width, plain}
+use Rattle.turns.specs.Turns.{Turn, taken}
+use Rattle.turns.proofs.Turns.{either as either-turn}
 use Rattle.panels.specs.Records.{familyW, connectors}
 use Rattle.panels.specs.Configure.{configured}
 use Rattle.panels.specs.declared.Inputs.{Inputs}
@@ -39,9 +41,14 @@ use Rattle.rs232c.specs.declared.Reply.{Reply as SerialReply}
 use Rattle.rs232c.specs.declared.Reply.the-variants.{Silent, Ack, Nak, State, Balances}
 use Rattle.kjw.specs.Rules as frames
 use Rattle.kjw.proofs.Notices.{reply-length}
-use Rattle.sdcp.specs.Packets.{heardOf}
+use Rattle.sdcp_asks.specs.Packets.{heardOf}
 use Rattle.sdcp.specs.Replies as packets
+use Rattle.sdcp_asks.specs.declared.Heard.{Heard as PacketHeard}
+use Rattle.sdcp_asks.specs.declared.Heard.the-variants as packetIs
 use Rattle.sdcp.specs.declared.Reply.{Reply as PacketReply}
+use Rattle.rs232c.specs.Frames as serialForms
+use Rattle.rs232c.specs.declared.Heard.{Heard as SerialHeard}
+use Rattle.rs232c.specs.declared.Heard.the-variants as serialIs
 use Rattle.sdcp.specs.declared.Reply.the-variants.{Silent as None, Ng, Ok}
 use Rattle.steps.specs.Messages.{Message, rs232c, kjw, tcp, udp, names}
 use Rattle.steps.specs.Step.{turn, back, passed, refused, door, panelAt, step}
@@ -315,11 +322,17 @@ serial-fits (Nak to) = omega arith
 serial-fits (State to on) = omega arith
 serial-fits (Balances to which v) = omega arith
 
-frame-fits : (room : ℕ) (m : List ℕ) (k : KRecord) → length (frames.met room m k .reply) ≤ 48
-unfolding frames.met
-frame-fits room m k =
+serial-turn-fits : (h : SerialHeard) (vs : List ℕ) (w : WRecord) → length (serial.turned h vs w .reply) ≤ 48
+unfolding serial.turned
+serial-turn-fits (serialIs.Refused a) vs w = omega arith
+serial-turn-fits (serialIs.Broken s) vs w = serial-fits (Nak s)
+serial-turn-fits (serialIs.Strange s) vs w = serial-fits (Nak s)
+serial-turn-fits (serialIs.Understood s o) vs w = serial-fits (serial.replyTo s o w)
+
+frame-fits : (m : List ℕ) (k : KRecord) → length (frames.turned m k .reply) ≤ 48
+frame-fits m k =
     let h = listed-every (λ (n : ℕ). leb n 48) (0 ∷ 24 ∷ 48 ∷ []) (length (frames.turned m k .reply)) refl (reply-length m k) in
-    choose (λ (o : frames.Outcome). length (o .reply) ≤ 48) (ltb room 512) _ (frames.turned m k) (λ e. omega arith) (λ e. leb-true (length (frames.turned m k .reply)) 48 h)
+    leb-true (length (frames.turned m k .reply)) 48 h
 
 packed-fits : (m : List ℕ) (code : ℕ) (body : List ℕ) → length body ≤ 20 → length (packets.packetOf m code body) ≤ 48
 unfolding packets.packetOf
@@ -335,12 +348,22 @@ packet-fits m None = omega arith
 packet-fits m Ng = packed-fits m 0x00 (0xf0 ∷ 0x50 ∷ []) (omega arith)
 packet-fits m (Ok t) = packed-fits m 0x01 (textOf t) (words-fit t)
 
+packet-turn-fits : (m : List ℕ) (h : PacketHeard) (w : WRecord) → length (packets.turned m h w .reply) ≤ 48
+unfolding packets.turned
+packet-turn-fits m (packetIs.Refused a) w = omega arith
+packet-turn-fits m packetIs.Broken w = packet-fits m Ng
+packet-turn-fits m packetIs.Strange w = packet-fits m (Ok Bare)
+packet-turn-fits m (packetIs.Understood o) w = packet-fits m (Ok (toldOf o w))
+
+behind : {R : Type 0} (room : ℕ) (f : R → Turn R) (x : R) → length (f x .reply) ≤ 48 → length (taken room f x .reply) ≤ 48
+behind {R} room f x = either-turn (λ (t : Turn R). length (t .reply) ≤ 48) room f x (omega arith)
+
 turn-fits : (m : Message) (p : Panel) → length (turn m p .reply) ≤ 48
 unfolding turn
-turn-fits (rs232c l m area) p = serial-fits (serial.told (length area) m (p .w) .reply)
-turn-fits (kjw l m area) p = frame-fits (length area) m (p .k)
-turn-fits (tcp l m area) p = packet-fits m (packets.told (length area) m (p .w) .reply)
-turn-fits (udp m) p = packet-fits m (packets.turned (heardOf m) (p .w) .reply)
+turn-fits (rs232c l m area) p = behind (length area) (serial.turnOf m) (p .w) (serial-turn-fits (serialForms.heardOf m) (serialForms.valuesOf m) (p .w))
+turn-fits (kjw l m area) p = behind (length area) (frames.turned m) (p .k) (frame-fits m (p .k))
+turn-fits (tcp l m area) p = behind (length area) (packets.turnOf m) (p .w) (packet-turn-fits m (heardOf m) (p .w))
+turn-fits (udp m) p = packet-turn-fits m (heardOf m) (p .w)
 
 back-fits : (m : Message) (reply : List ℕ) → length reply ≤ 48 → back m reply .len ≤ 48
 back-fits (rs232c l m area) reply h = h

@@ -1,10 +1,12 @@
--- The promise at the door allows one outcome: its equations have the same right sides.
-use mathlib.Core.Path.{_≡_, sym, _∙_}
-use mathlib.Core.List.{List}
+-- The promise at the door allows one outcome, as every promise of a turn does.
 use Prim.Native.Nat.{ℕ}
+use mathlib.Core.Path.{_≡_}
+use mathlib.Core.List.{List}
+use Rattle.turns.specs.Turns.{Takes}
+use Rattle.turns.proofs.Turns.{takes-one}
 use Rattle.panels.specs.declared.KRecord.{KRecord}
-use Rattle.kjw.specs.Rules.{Answered}
+use Rattle.kjw.specs.Rules.{turned}
 use Rattle.kjw.specs.declared.Taken.{Taken}
 
-pub take-frame-one : (k : KRecord) (m area : List ℕ) (r r′ : Taken) (x x′ : List ℕ) → Answered k m area r x → Answered k m area r′ x′ → (r ≡ r′) × (x ≡ x′)
-take-frame-one k m area r r′ x x′ p q = (p .given ∙ sym (q .given), p .area-after ∙ sym (q .area-after))
+pub take-frame-one : (m : List ℕ) (k : KRecord) (area : List ℕ) (r r′ : Taken) (z z′ : List ℕ) → Takes (turned m) k area (r .k) (r .answer) (r .len) z → Takes (turned m) k area (r′ .k) (r′ .answer) (r′ .len) z′ → (r .k ≡ r′ .k) × (r .answer ≡ r′ .answer) × (r .len ≡ r′ .len) × (z ≡ z′)
+take-frame-one m k area r r′ z z′ = takes-one (turned m) k area _ _ _ _ _ _ z z′

@@ -1,23 +1,25 @@
 -- A valid panel stays valid, and an answer that is not 0 leaves it as it was: only orders in their ranges are understood.
 use mathlib.Core.Path.{_≡_, refl}
-use mathlib.Core.Bool.{Bool, true, false, not, cond, _&&_}
-use mathlib.Core.List.{List, []}
+use mathlib.Core.Bool.{Bool, true, not, _&&_}
+use mathlib.Core.List.{List}
 use Prim.Native.Nat.{ℕ, _-_}
 use native.Mathlib.Omega.{arith}
 use lib.ListN.{length, getD}
-use lib.Dec.{eqb, leb, ltb}
+use lib.Dec.{eqb, leb}
 use borrow.Author.Tests.{eqb-true, le-leb, not-false}
 use Rattle.laws.specs.Bytes.{ascii, part, same}
 use Rattle.laws.specs.Lists.{listed}
 use Rattle.laws.proofs.Conditions.{and-first, and-second, and-both, choose}
 use Rattle.laws.proofs.Lists.{part-length, listed-every}
-use Rattle.terms.specs.declared.Answer.the-variants.{Done, AreaTooSmall, WrongLength, NotForUs}
+use Rattle.terms.specs.declared.Answer.the-variants.{Done, WrongLength, NotForUs}
+use Rattle.turns.specs.Turns.{Turn, taken}
+use Rattle.turns.proofs.Turns.{either}
 use Rattle.panels.specs.Records.{kinds}
 use Rattle.panels.specs.Valid.{okInput, okK}
 use Rattle.panels.specs.declared.KRecord.{KRecord}
 use Rattle.numbers.specs.Decimals.{decimal}
 use Rattle.kjw.specs.Frames.{lettersOf, typeControl, blank, nameOf}
-use Rattle.kjw.specs.Rules.{switchOf, sceneOf, isVolume, isInput, upTo, volumeOrder, inputOrder, toggleOf, controlOf, enquiryOf, isOurs, heardOf, flipped, carried, turnOf, turned, met}
+use Rattle.kjw.specs.Rules.{switchOf, sceneOf, isVolume, isInput, upTo, volumeOrder, inputOrder, toggleOf, controlOf, enquiryOf, isOurs, heardOf, flipped, carried, turnOf, turned}
 use Rattle.kjw.specs.declared.State.the-variants.{Power, AudioMute, PictureMute, Volume, Input, Scene}
 use Rattle.kjw.specs.declared.Order.{Order}
 use Rattle.kjw.specs.declared.Order.the-variants.{SetPower, TogglePower, SetAudioMute, SetPictureMute, TogglePictureMute, SetVolume, SetInput, SetScene, Ask}
@@ -158,7 +160,7 @@ turn-valid Strange k s v = v
 turn-valid (Understood o) k s v = together (carried o k) (carried-keeps o k s (apart k v))
 
 -- a valid panel is valid after every message
-pub turned-valid : (m : List ℕ) (k : KRecord) → okK k ≡ true → okK (turned m k .k) ≡ true
+pub turned-valid : (m : List ℕ) (k : KRecord) → okK k ≡ true → okK (turned m k .after) ≡ true
 unfolding turned
 turned-valid m k v = turn-valid (heardOf m) k (heard-sound m) v
 
@@ -169,23 +171,13 @@ turn-unchanged Strange k n = refl
 turn-unchanged (Understood o) k n = absurd (n refl)
 
 -- every answer but 0 leaves the panel as it was
-pub turned-unchanged : (m : List ℕ) (k : KRecord) → (turned m k .answer ≡ Done → ⊥) → turned m k .k ≡ k
+pub turned-unchanged : (m : List ℕ) (k : KRecord) → (turned m k .answer ≡ Done → ⊥) → turned m k .after ≡ k
 unfolding turned
 turned-unchanged m k n = turn-unchanged (heardOf m) k n
 
 -- both at the door, where the area may be too small
-pub met-valid : (room : ℕ) (m : List ℕ) (k : KRecord) → okK k ≡ true → okK (met room m k .k) ≡ true
-unfolding met
-met-valid room m k v = go (ltb room 512)
-  where
-    go : (b : Bool) → okK (cond b (record { k = k; answer = AreaTooSmall; reply = [] }) (turned m k) .k) ≡ true
-    go true = v
-    go false = turned-valid m k v
+pub taken-valid : (room : ℕ) (m : List ℕ) (k : KRecord) → okK k ≡ true → okK (taken room (turned m) k .after) ≡ true
+taken-valid room m k v = either (λ (t : Turn KRecord). okK (t .after) ≡ true) room (turned m) k v (turned-valid m k v)
 
-pub met-unchanged : (room : ℕ) (m : List ℕ) (k : KRecord) → (met room m k .answer ≡ Done → ⊥) → met room m k .k ≡ k
-unfolding met
-met-unchanged room m k = go (ltb room 512)
-  where
-    go : (b : Bool) → (cond b (record { k = k; answer = AreaTooSmall; reply = [] }) (turned m k) .answer ≡ Done → ⊥) → cond b (record { k = k; answer = AreaTooSmall; reply = [] }) (turned m k) .k ≡ k
-    go true n = refl
-    go false n = turned-unchanged m k n
+pub taken-unchanged : (room : ℕ) (m : List ℕ) (k : KRecord) → (taken room (turned m) k .answer ≡ Done → ⊥) → taken room (turned m) k .after ≡ k
+taken-unchanged room m k = either (λ (t : Turn KRecord). (t .answer ≡ Done → ⊥) → t .after ≡ k) room (turned m) k (λ n. refl) (turned-unchanged m k)

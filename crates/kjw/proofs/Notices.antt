@@ -93,12 +93,12 @@ turn-changed (Refused a) k e = absurd (omega arith)
 turn-changed Strange k e = absurd (omega arith)
 turn-changed (Understood o) k e = reply-changed o k (carried o k) e
 
-pub notice-changed : (m : List ℕ) (k : KRecord) → length (turned m k .reply) ≡ 48 → Notice k (turned m k .k)
+pub notice-changed : (m : List ℕ) (k : KRecord) → length (turned m k .reply) ≡ 48 → Notice k (turned m k .after)
 unfolding turned
 notice-changed m k e = turn-changed (heardOf m) k (sym (turned-length m k) ∙ e)
 
 -- so a panel that stays as it was has no notice
-pub unchanged-silent : (m : List ℕ) (k : KRecord) → turned m k .k ≡ k → length (turned m k .reply) ≡ 48 → ⊥
+pub unchanged-silent : (m : List ℕ) (k : KRecord) → turned m k .after ≡ k → length (turned m k .reply) ≡ 48 → ⊥
 unchanged-silent m k q e =
     let n = notice-changed m k e in
     n .changed (ap (valueOf (n .state)) (sym q))

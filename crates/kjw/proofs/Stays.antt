@@ -3,15 +3,16 @@ use mathlib.Core.Path.{_≡_, refl, ap}
 use mathlib.Core.Bool.{Bool, false}
 use mathlib.Core.List.{List, [], _∷_}
 use Prim.Native.Nat.{ℕ}
-use lib.Dec.{eqb, ltb}
+use lib.Dec.{eqb}
 use lib.ListN.{getD}
 use lib.Seq.{getD-set-other}
 use borrow.Author.Tests.{eqb-false}
-use Rattle.laws.proofs.Conditions.{choose}
+use Rattle.turns.specs.Turns.{Turn, taken}
+use Rattle.turns.proofs.Turns.{either}
 use Rattle.panels.specs.declared.KRecord.{KRecord}
 use Rattle.numbers.specs.Decimals.{inDigits}
 use Rattle.kjw.specs.Frames.{switchWord, sceneWord, inputWord, valueOf}
-use Rattle.kjw.specs.Rules.{heardOf, flipped, carried, turnOf, Outcome, turned, met}
+use Rattle.kjw.specs.Rules.{heardOf, flipped, carried, turnOf, turned}
 use Rattle.kjw.specs.declared.State.{State}
 use Rattle.kjw.specs.declared.State.the-variants.{Power, AudioMute, PictureMute, Volume, Input, Scene}
 use Rattle.kjw.specs.declared.Order.{Order}
@@ -77,6 +78,6 @@ turn-stays Strange s k n = refl
 turn-stays (Understood o) s k n = value-by-row s k (carried o k) (row-stays o k (placeOf s) n)
 
 -- whatever the message and the area, the value of a state stays, but for an order that sets it
-pub stays : (room : ℕ) (m : List ℕ) (s : State) (k : KRecord) → setsState (heardOf m) s ≡ false → valueOf s (met room m k .k) ≡ valueOf s k
-unfolding met turned
-stays room m s k n = choose (λ (o : Outcome). valueOf s (o .k) ≡ valueOf s k) (ltb room 512) _ (turned m k) (λ e. refl) (λ e. turn-stays (heardOf m) s k n)
+pub stays : (room : ℕ) (m : List ℕ) (s : State) (k : KRecord) → setsState (heardOf m) s ≡ false → valueOf s (taken room (turned m) k .after) ≡ valueOf s k
+unfolding turned
+stays room m s k n = either (λ (t : Turn KRecord). valueOf s (t .after) ≡ valueOf s k) room (turned m) k refl (turn-stays (heardOf m) s k n)

@@ -127,7 +127,7 @@ asked-reply Input k = refl
 asked-reply Scene k = refl
 
 -- what was said to be done is kept: the enquiry behind a control that was answered 0 brings its parameters back
-pub set-then-asked : (s : State) (p : List ℕ) (k : KRecord) → length p ≡ 16 → turned (frameOf typeControl (nameOf s) p) k .answer ≡ Done → turned (frameOf typeEnquiry (nameOf s) blank) (turned (frameOf typeControl (nameOf s) p) k .k) .reply ≡ frameOf typeAnswer (nameOf s) p
+pub set-then-asked : (s : State) (p : List ℕ) (k : KRecord) → length p ≡ 16 → turned (frameOf typeControl (nameOf s) p) k .answer ≡ Done → turned (frameOf typeEnquiry (nameOf s) blank) (turned (frameOf typeControl (nameOf s) p) k .after) .reply ≡ frameOf typeAnswer (nameOf s) p
 unfolding turned
 set-then-asked s p k h e =
     let q = heard-control s p h in
@@ -136,11 +136,11 @@ set-then-asked s p k h e =
     asked-reply s (turnOf k (heardOf (frameOf typeControl (nameOf s) p)) .k) ∙ ap (frameOf typeAnswer (nameOf s)) v
 
 -- a toggle turns its switch over, whatever the panel
-pub toggled-power : (k : KRecord) → turned (frameOf typeControl (ascii "TPOW") blank) k .k ≡ withPower (flipped (k .power)) k
+pub toggled-power : (k : KRecord) → turned (frameOf typeControl (ascii "TPOW") blank) k .after ≡ withPower (flipped (k .power)) k
 unfolding turned turnOf heardOf isOurs controlOf toggleOf nameOf lettersOf carried frameOf
 toggled-power k = refl
 
-pub toggled-picture : (k : KRecord) → turned (frameOf typeControl (ascii "TPMU") blank) k .k ≡ withPmut (flipped (k .pmut)) k
+pub toggled-picture : (k : KRecord) → turned (frameOf typeControl (ascii "TPMU") blank) k .after ≡ withPmut (flipped (k .pmut)) k
 unfolding turned turnOf heardOf isOurs controlOf toggleOf nameOf lettersOf carried frameOf
 toggled-picture k = refl
 

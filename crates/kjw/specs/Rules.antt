@@ -1,14 +1,13 @@
 -- Document 01, "KJW (003)": what a frame asks, what the panel does with it, and what goes back.
 use Prim.Native.Nat.{ℕ, _-_}
-use mathlib.Core.Path.{_≡_}
 use mathlib.Core.Bool.{Bool, not, cond, _&&_}
 use mathlib.Core.List.{List, [], _∷_, _++_}
 use lib.ListN.{length, getD}
-use lib.Dec.{eqb, leb, ltb}
-use Rattle.laws.specs.Bytes.{ascii, part, same, sent}
+use lib.Dec.{eqb, leb}
+use Rattle.laws.specs.Bytes.{ascii, part, same}
 use Rattle.laws.specs.Lists.{every, listed}
-use Rattle.terms.specs.declared.Answer.{Answer}
-use Rattle.terms.specs.declared.Answer.the-variants.{Done, AreaTooSmall, WrongLength, NotForUs, NotUnderstood}
+use Rattle.terms.specs.declared.Answer.the-variants.{Done, WrongLength, NotForUs, NotUnderstood}
+use Rattle.turns.specs.Turns as turns
 use Rattle.panels.specs.declared.KRecord.{KRecord}
 use Rattle.numbers.specs.Decimals.{isDigit, decimal}
 use Rattle.kjw.specs.Frames.{frameOf, typeControl, typeEnquiry, typeAnswer, typeNotice, lettersOf, blank, accepted, rejected, nameOf, off, on, auto, autoSync, general, valueOf}
@@ -21,7 +20,6 @@ use Rattle.kjw.specs.declared.Heard.the-variants.{Refused, Strange, Unde
 use Rattle.kjw.specs.declared.Reply.{Reply}
 use Rattle.kjw.specs.declared.Reply.the-variants.{Silent, Rejected, Accepted, Changed, Told}
 use Rattle.kjw.specs.declared.Turn.{Turn}
-use Rattle.kjw.specs.declared.Taken.{Taken}
 
 -- "fifteen `0` and 0 or 1": the switch that is written, 2 where it is none
 unfoldable pub switchOf : List ℕ → ℕ
@@ -160,22 +158,8 @@ bytesOf (Changed s) k l = frameOf typeAnswer l accepted ++ frameOf typeNotice (n
 bytesOf (Told s) k l = frameOf typeAnswer l (valueOf s k)
 
 -- what a message comes to: the panel afterwards, the answer and the reply's bytes
-pub record Outcome : Type 0 where
-  pub k : KRecord
-  pub answer : Answer
-  pub reply : List ℕ
+abbrev pub spelled : List ℕ → Turn → turns.Turn KRecord
+spelled l t = record { after = t .k; answer = t .answer; reply = bytesOf (t .reply) (t .k) l }
 
-abbrev pub spelled : List ℕ → Turn → Outcome
-spelled l t = record { k = t .k; answer = t .answer; reply = bytesOf (t .reply) (t .k) l }
-
-unfoldable pub turned : List ℕ → KRecord → Outcome
+unfoldable pub turned : List ℕ → KRecord → turns.Turn KRecord
 turned m k = spelled (lettersOf m) (turnOf k (heardOf m))
-
--- the same behind the first check, "1 reply area under 512 bytes"
-unfoldable pub met : ℕ → List ℕ → KRecord → Outcome
-met room m k = cond (ltb room 512) (record { k = k; answer = AreaTooSmall; reply = [] }) (turned m k)
-
--- the promise at the door: what is given back, and the whole area afterwards
-pub record Answered (k : KRecord) (m area : List ℕ) (r : Taken) (area′ : List ℕ) : Type 0 where
-  pub given : r ≡ record { k = met (length area) m k .k; answer = met (length area) m k .answer; len = length (met (length area) m k .reply) }
-  pub area-after : area′ ≡ sent (met (length area) m k .reply) area

@@ -14,8 +14,9 @@ ghost use Prim.Native.Nat.{_+_, _≤_};
 ghost use lib.ListN.{length, replicate};
 ghost use Rattle.laws.specs.Bytes.{over, Sent};
 ghost use Rattle.numbers.specs.Decimals.{inDigits};
+ghost use Rattle.turns.specs.Turns.{Takes};
 ghost use Rattle.kjw.specs.Frames.{frameOf, typeAnswer, lettersOf, nameOf, switchWord, sceneWord, inputWord, valueOf};
-ghost use Rattle.kjw.specs.Rules.{switchOf, sceneOf, upTo, volumeOrder, inputOrder, toggleOf, controlOf, enquiryOf, isOurs, heardOf, flipped, carried, noticed, replyOf, turnOf, bytesOf, Answered};
+ghost use Rattle.kjw.specs.Rules.{switchOf, sceneOf, upTo, volumeOrder, inputOrder, toggleOf, controlOf, enquiryOf, isOurs, heardOf, flipped, carried, noticed, replyOf, turnOf, bytesOf, turned};
 
 // What an enquiry asks for and a notice tells: POWR, AMUT, PMUT, VOLU, INPT, SCEN.
 pub enum State {
@@ -477,7 +478,7 @@ fn send(r: Reply, k: KRecord, letters: [u8; 4], area: &mut [u8]) -> usize
 
 // A message on the KJW link of a K panel.
 pub fn take_frame(k: KRecord, m: &[u8], area: &mut [u8]) -> Taken
-    ensures { λ r. ⌜ Answered k (now (m .entry)) (now (area .entry)) r (now (area .exit)) ⌝ }
+    ensures { λ r. ⌜ Takes (turned (now (m .entry))) k (now (area .entry)) (r .k) (r .answer) (r .len) (now (area .exit)) ⌝ }
 {
     if area.len() < 512 {
         return Taken {

@@ -8,48 +8,40 @@ use lib.Dec.{eqb, ltb}
 use lib.IntN.{pos, negsuc}
 use lib.ListN.{length, getD, take, drop, set, replicate}
 use lib.Seq.{getD-take, getD-drop, getD-set-same, getD-set-other}
-use borrow.Author.Tests.{le-ltb, ltb-false, eqb-true, eqb-false, ne-eqb}
+use borrow.Author.Tests.{le-ltb, eqb-true, eqb-false, ne-eqb}
 use Rattle.laws.proofs.Conditions.{and-first}
-use Rattle.terms.specs.Answers.{numberOf}
-use Rattle.terms.specs.declared.Answer.the-variants.{Done, AreaTooSmall}
+use Rattle.terms.specs.declared.Answer.the-variants.{Done}
+use Rattle.turns.specs.Turns.{Turn, taken}
+use Rattle.turns.proofs.Turns.{done-room, either}
 use Rattle.panels.specs.declared.Inputs.{Inputs}
 use Rattle.panels.specs.declared.Balance.{Balance}
 use Rattle.panels.specs.declared.WRecord.{WRecord}
 use Rattle.rs232c.specs.Frames.{heardOf, valuesOf}
 use Rattle.rs232c.specs.Orders.{Say, silent, say, withInputs, placeOf, connectorMarked, presetMarked, connectorOf, presetOf, usedAfter, presetAfter, configuredBy, actOf, configGood, selectGood, turnedOff, onAfter, selectedBy, gainOf, biasOf, decode, put, balancedBy, carried}
-use Rattle.rs232c.specs.Replies.{Turn, gainBits, biasBits, sensed, remoteOf, replyTo, turned, turnOf, told}
+use Rattle.rs232c.specs.Replies.{bytesOf, gainBits, biasBits, sensed, remoteOf, replyTo, turned, turnOf}
 use Rattle.rs232c.specs.declared.Three.{Three}
 use Rattle.rs232c.specs.declared.Order.{Order}
 use Rattle.rs232c.specs.declared.Order.the-variants.{Config, Select, Levels, Sense, Remote}
 use Rattle.rs232c.specs.declared.Heard.{Heard}
 use Rattle.rs232c.specs.declared.Heard.the-variants.{Refused, Broken, Strange, Understood}
-use Rattle.rs232c.specs.declared.Reply.the-variants.{Silent, State, Balances}
+use Rattle.rs232c.specs.declared.Reply.the-variants.{State, Balances}
 use Rattle.rs232c.proofs.Codes.{bears, heard-bears, select-good}
 use Rattle.rs232c.proofs.Decode.{puts-at}
 use Rattle.rs232c.proofs.Switches.{place-good, act-good, off-other, off-done, off-last}
 
 -- ---- an order that is answered 0 is carried out
 
-abbrev pub obeyed : ℕ → Order → List ℕ → WRecord → Turn
-obeyed s o m w = record { after = carried o (valuesOf m) w; answer = Done; reply = replyTo s o w }
+abbrev pub obeyed : ℕ → Order → List ℕ → WRecord → Turn WRecord
+obeyed s o m w = record { after = carried o (valuesOf m) w; answer = Done; reply = bytesOf (replyTo s o w) }
 
 -- with an area of 512 bytes what is understood is carried out
-pub with-room : (room s : ℕ) (o : Order) (m : List ℕ) (w : WRecord) → 512 ≤ room → heardOf m ≡ Understood s o → told room m w ≡ obeyed s o m w
-unfolding told turned
+pub with-room : (room s : ℕ) (o : Order) (m : List ℕ) (w : WRecord) → 512 ≤ room → heardOf m ≡ Understood s o → taken room (turnOf m) w ≡ obeyed s o m w
+unfolding taken turned
 with-room room s o m w r e = rw (le-ltb room 512 r, e)
 
--- "reply area under 512 bytes": then the answer is not 0
-pub done-room : (room : ℕ) (m : List ℕ) (w : WRecord) → told room m w .answer ≡ Done → 512 ≤ room
-unfolding told
-done-room room m w = go (ltb room 512) refl
-  where
-    go : (b : Bool) → ltb room 512 ≡ b → cond b (record { after = w; answer = AreaTooSmall; reply = Silent }) (turnOf m w) .answer ≡ Done → 512 ≤ room
-    go true t d = absurd (let n : 1 ≡ 0 = ap numberOf d in omega arith)
-    go false t d = ltb-false room 512 t
-
 -- "0, carried out": what is understood and answered 0 comes to what its definition says
-pub done : (room s : ℕ) (o : Order) (m : List ℕ) (w : WRecord) → told room m w .answer ≡ Done → heardOf m ≡ Understood s o → told room m w ≡ obeyed s o m w
-done room s o m w d e = with-room room s o m w (done-room room m w d) e
+pub done : (room s : ℕ) (o : Order) (m : List ℕ) (w : WRecord) → taken room (turnOf m) w .answer ≡ Done → heardOf m ≡ Understood s o → taken room (turnOf m) w ≡ obeyed s o m w
+done room s o m w d e = with-room room s o m w (done-room room (turnOf m) w d) e
 
 -- ---- 40h, then 61h
 
@@ -130,33 +122,33 @@ balance-back which mask vs b g h = record { brings = λ k i. go k i (eqb which 1
     go k i false = three-back biasBits biasOf 2048 bias-bits (b .biases) (b′ .biases) (pos 0) k (getD (decode 6 mask vs) (3 + k) silent) i (bias-kept mask k vs b h i)
 
 -- 61h, "Reply 71h, that byte, then R, G, B": those of the record
-pub sense-brings : (room s which : ℕ) (m : List ℕ) (w : WRecord) → 512 ≤ room → heardOf m ≡ Understood s (Sense which) → told room m w .reply ≡ Balances s which (sensed which (w .balance))
+pub sense-brings : (room s which : ℕ) (m : List ℕ) (w : WRecord) → 512 ≤ room → heardOf m ≡ Understood s (Sense which) → taken room (turnOf m) w .reply ≡ bytesOf (Balances s which (sensed which (w .balance)))
 unfolding replyTo
-sense-brings room s which m w r e = ap (λ (t : Turn). t .reply) (with-room room s (Sense which) m w r e)
+sense-brings room s which m w r e = ap (λ (t : Turn WRecord). t .reply) (with-room room s (Sense which) m w r e)
 
-module _ (room s mask : ℕ) (m : List ℕ) (w : WRecord) (g : length (w .balance .gains) ≡ 3) (h : length (w .balance .biases) ≡ 3) (d : told room m w .answer ≡ Done) (e : heardOf m ≡ Understood s (Levels mask)) where
-  levels-after : told room m w .after .balance ≡ balancedBy mask (valuesOf m) (w .balance)
+module _ (room s mask : ℕ) (m : List ℕ) (w : WRecord) (g : length (w .balance .gains) ≡ 3) (h : length (w .balance .biases) ≡ 3) (d : taken room (turnOf m) w .answer ≡ Done) (e : heardOf m ≡ Understood s (Levels mask)) where
+  levels-after : taken room (turnOf m) w .after .balance ≡ balancedBy mask (valuesOf m) (w .balance)
   unfolding carried
-  levels-after = ap (λ (t : Turn). t .after .balance) (done room s (Levels mask) m w d e)
+  levels-after = ap (λ (t : Turn WRecord). t .after .balance) (done room s (Levels mask) m w d e)
 
   -- 40h answered 0: the record has what was said, and of what nothing was said, what it had
-  pub levels-kept : (k : ℕ) → k < 3 → (getD (told room m w .after .balance .gains) k 0 ≡ put gainOf (getD (decode 6 mask (valuesOf m)) k silent) (getD (w .balance .gains) k 0)) × (getD (told room m w .after .balance .biases) k (pos 0) ≡ put biasOf (getD (decode 6 mask (valuesOf m)) (3 + k) silent) (getD (w .balance .biases) k (pos 0)))
+  pub levels-kept : (k : ℕ) → k < 3 → (getD (taken room (turnOf m) w .after .balance .gains) k 0 ≡ put gainOf (getD (decode 6 mask (valuesOf m)) k silent) (getD (w .balance .gains) k 0)) × (getD (taken room (turnOf m) w .after .balance .biases) k (pos 0) ≡ put biasOf (getD (decode 6 mask (valuesOf m)) (3 + k) silent) (getD (w .balance .biases) k (pos 0)))
   levels-kept k i =
       (ap (λ (b : Balance). getD (b .gains) k 0) levels-after ∙ gain-kept mask k (valuesOf m) (w .balance) g i, ap (λ (b : Balance). getD (b .biases) k (pos 0)) levels-after ∙ bias-kept mask k (valuesOf m) (w .balance) h i)
 
   -- 40h answered 0, then 61h: it brings what was said, and of what nothing was said, what the same 61h brings without the 40h
-  pub levels-then-sense : (room′ s′ which : ℕ) (m′ : List ℕ) → 512 ≤ room′ → heardOf m′ ≡ Understood s′ (Sense which) → (before : Three) × (behind : Three) × (told room′ m′ w .reply ≡ Balances s′ which before) × (told room′ m′ (told room m w .after) .reply ≡ Balances s′ which behind) × AskedBack which (decode 6 mask (valuesOf m)) before behind
+  pub levels-then-sense : (room′ s′ which : ℕ) (m′ : List ℕ) → 512 ≤ room′ → heardOf m′ ≡ Understood s′ (Sense which) → (before : Three) × (behind : Three) × (taken room′ (turnOf m′) w .reply ≡ bytesOf (Balances s′ which before)) × (taken room′ (turnOf m′) (taken room (turnOf m) w .after) .reply ≡ bytesOf (Balances s′ which behind)) × AskedBack which (decode 6 mask (valuesOf m)) before behind
   levels-then-sense room′ s′ which m′ r f =
       let b = w .balance in
-      let again = sense-brings room′ s′ which m′ (told room m w .after) r f ∙ ap (λ (x : Balance). Balances s′ which (sensed which x)) levels-after in
+      let again = sense-brings room′ s′ which m′ (taken room (turnOf m) w .after) r f ∙ ap (λ (x : Balance). bytesOf (Balances s′ which (sensed which x))) levels-after in
       (sensed which b, sensed which (balancedBy mask (valuesOf m) b), sense-brings room′ s′ which m′ w r f, again, balance-back which mask (valuesOf m) b g h)
 
 -- ---- 6Eh
 
 -- 6Eh, "Reply 7Eh with 1 where REMOTE is ON, else 0": the record's own REMOTE
-pub remote-brings : (room s : ℕ) (m : List ℕ) (w : WRecord) → 512 ≤ room → heardOf m ≡ Understood s Remote → told room m w .reply ≡ State s (remoteOf w)
+pub remote-brings : (room s : ℕ) (m : List ℕ) (w : WRecord) → 512 ≤ room → heardOf m ≡ Understood s Remote → taken room (turnOf m) w .reply ≡ bytesOf (State s (remoteOf w))
 unfolding replyTo
-remote-brings room s m w r e = ap (λ (t : Turn). t .reply) (with-room room s Remote m w r e)
+remote-brings room s m w r e = ap (λ (t : Turn WRecord). t .reply) (with-room room s Remote m w r e)
 
 -- ---- 21h
 
@@ -184,7 +176,7 @@ configured marks byte i = record {
 }
 
 -- 21h answered 0: the marked parts are as ordered, but for a connector that is OFF
-pub config-kept : (room s marks byte : ℕ) (m : List ℕ) (w : WRecord) → told room m w .answer ≡ Done → heardOf m ≡ Understood s (Config marks byte) → Configured marks byte (w .inputs) (told room m w .after .inputs)
+pub config-kept : (room s marks byte : ℕ) (m : List ℕ) (w : WRecord) → taken room (turnOf m) w .answer ≡ Done → heardOf m ≡ Understood s (Config marks byte) → Configured marks byte (w .inputs) (taken room (turnOf m) w .after .inputs)
 unfolding carried
 config-kept room s marks byte m w d e = rw (done room s (Config marks byte) m w d e) (configured marks byte (w .inputs))
 
@@ -228,7 +220,7 @@ selected byte i l g = record {
     go n k h false false p q = absurd (omega (arith, n, act-good byte g, eqb-false (actOf byte) 1 p, eqb-false (actOf byte) 2 q))
 
 -- 22h answered 0: its connector is as ordered, but for OFF where all others are OFF
-pub select-kept : (room s byte : ℕ) (m : List ℕ) (w : WRecord) → length (w .inputs .on) ≡ 10 → told room m w .answer ≡ Done → heardOf m ≡ Understood s (Select byte) → Selected byte (w .inputs) (told room m w .after .inputs)
+pub select-kept : (room s byte : ℕ) (m : List ℕ) (w : WRecord) → length (w .inputs .on) ≡ 10 → taken room (turnOf m) w .answer ≡ Done → heardOf m ≡ Understood s (Select byte) → Selected byte (w .inputs) (taken room (turnOf m) w .after .inputs)
 unfolding carried
 select-kept room s byte m w l d e = rw (done room s (Select byte) m w d e) (selected byte (w .inputs) l (select-good m s byte e))
 
@@ -263,10 +255,7 @@ turned-stays code (Understood s (Sense which)) vs w e = unmoved code w
 turned-stays code (Understood s Remote) vs w e = unmoved code w
 
 -- the fifth byte of a message is its command's code: whatever the message and the area, all else stays
-pub stays : (room : ℕ) (m : List ℕ) (w : WRecord) → Stays (getD m 4 0) w (told room m w .after)
-unfolding told
-stays room m w = go (ltb room 512)
-  where
-    go : (b : Bool) → Stays (getD m 4 0) w (cond b (record { after = w; answer = AreaTooSmall; reply = Silent }) (turnOf m w) .after)
-    go true = unmoved (getD m 4 0) w
-    go false = turned-stays (getD m 4 0) (heardOf m) (valuesOf m) w (heard-bears m)
+pub stays : (room : ℕ) (m : List ℕ) (w : WRecord) → Stays (getD m 4 0) w (taken room (turnOf m) w .after)
+stays room m w =
+    either (λ (t : Turn WRecord). Stays (getD m 4 0) w (t .after)) room (turnOf m) w (unmoved (getD m 4 0) w)
+    (turned-stays (getD m 4 0) (heardOf m) (valuesOf m) w (heard-bears m))

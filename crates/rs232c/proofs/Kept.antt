@@ -12,21 +12,22 @@ use borrow.Author.Tests.{le-leb, ltb-true, ltb-false, not-false}
 use Rattle.laws.specs.Lists.{every, listed, within}
 use Rattle.laws.proofs.Conditions.{and-first, and-second, and-both, choose}
 use Rattle.laws.proofs.Lists.{within-set}
+use Rattle.turns.specs.Turns.{Turn, taken}
+use Rattle.turns.proofs.Turns.{either}
 use Rattle.panels.specs.Records.{connectors, presets}
 use Rattle.panels.specs.Valid.{okGain, okBias, okInputs, okBalance, okW}
 use Rattle.panels.proofs.Ranges.{InRange, parts, whole}
 use Rattle.panels.specs.declared.Inputs.{Inputs}
 use Rattle.panels.specs.declared.Balance.{Balance}
 use Rattle.panels.specs.declared.WRecord.{WRecord}
-use Rattle.terms.specs.declared.Answer.the-variants.{WrongLength, NotForUs, AreaTooSmall}
+use Rattle.terms.specs.declared.Answer.the-variants.{WrongLength, NotForUs}
 use Rattle.rs232c.specs.Frames.{isForeign, isBroken, configCommand, selectCommand, levelsCommand, senseCommand, commandOf, heardOf, valuesOf}
 use Rattle.rs232c.specs.Orders.{Say, silent, say, connectorMarked, presetMarked, connectorOf, presetOf, placeOf, connectorGood, presetGood, configGood, selectGood, usedAfter, presetAfter, configuredBy, actOf, turnedOff, onAfter, selectedBy, gainOf, biasOf, puts, decode, balancedBy, carried}
-use Rattle.rs232c.specs.Replies.{Turn, turned, turnOf, told}
+use Rattle.rs232c.specs.Replies.{turned, turnOf}
 use Rattle.rs232c.specs.declared.Order.{Order}
 use Rattle.rs232c.specs.declared.Order.the-variants.{Config, Select, Levels, Sense, Remote}
 use Rattle.rs232c.specs.declared.Heard.{Heard}
 use Rattle.rs232c.specs.declared.Heard.the-variants.{Refused, Broken, Strange, Understood}
-use Rattle.rs232c.specs.declared.Reply.the-variants.{Silent}
 
 -- ---- the inputs
 
@@ -182,13 +183,7 @@ turned-ok (Strange s) vs w g r = r
 turned-ok (Understood s o) vs w g r = carried-ok o vs w g r
 
 -- a valid record stays valid, whatever the message and the area
-pub stays-valid : (room : ℕ) (m : List ℕ) (w : WRecord) → okW w ≡ true → okW (told room m w .after) ≡ true
-unfolding told
-stays-valid room m w e = go (ltb room 512)
-  where
-    small : Turn
-    small = record { after = w; answer = AreaTooSmall; reply = Silent }
-
-    go : (b : Bool) → okW (cond b small (turnOf m w) .after) ≡ true
-    go true = e
-    go false = whole (turned (heardOf m) (valuesOf m) w .after) (turned-ok (heardOf m) (valuesOf m) w (heard-good m) (parts w e))
+pub stays-valid : (room : ℕ) (m : List ℕ) (w : WRecord) → okW w ≡ true → okW (taken room (turnOf m) w .after) ≡ true
+stays-valid room m w e =
+    either (λ (t : Turn WRecord). okW (t .after) ≡ true) room (turnOf m) w e
+    (whole (turnOf m w .after) (turned-ok (heardOf m) (valuesOf m) w (heard-good m) (parts w e)))

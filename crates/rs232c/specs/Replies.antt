@@ -1,20 +1,17 @@
 -- Document 01, "RS-232C (002, 004)" and "Answer numbers": what a message does to a record, and what is sent back.
 use Prim.Native.Nat.{ℕ, _+_, _-_, _/_, _%_}
-use mathlib.Core.Path.{_≡_}
 use mathlib.Core.Bool.{cond}
 use mathlib.Core.List.{List, [], _∷_, _++_}
-use lib.Dec.{eqb, ltb}
+use lib.Dec.{eqb}
 use lib.ListN.{length, getD}
 use lib.IntN.{ℤ, pos, negsuc}
-use Rattle.laws.specs.Bytes.{Sent}
 use Rattle.sums.specs.Sums.{sumOf}
-use Rattle.terms.specs.declared.Answer.{Answer}
-use Rattle.terms.specs.declared.Answer.the-variants.{Done, AreaTooSmall, EnvelopeWrong, NotUnderstood}
+use Rattle.terms.specs.declared.Answer.the-variants.{Done, EnvelopeWrong, NotUnderstood}
+use Rattle.turns.specs.Turns.{Turn, left}
 use Rattle.panels.specs.declared.Balance.{Balance}
 use Rattle.panels.specs.declared.WRecord.{WRecord}
 use Rattle.rs232c.specs.Frames.{heardOf, valuesOf}
 use Rattle.rs232c.specs.Orders.{carried}
-use Rattle.rs232c.specs.declared.Taken.{Taken}
 use Rattle.rs232c.specs.declared.Three.{Three}
 use Rattle.rs232c.specs.declared.Order.{Order}
 use Rattle.rs232c.specs.declared.Order.the-variants.{Config, Select, Levels, Sense, Remote}
@@ -74,27 +71,12 @@ replyTo source (Levels mask) w = Ack source
 replyTo source (Sense which) w = Balances source which (sensed which (w .balance))
 replyTo source Remote w = State source (remoteOf w)
 
--- what a message does: the record after it, the answer, and the reply
-pub record Turn : Type 0 where
-  pub after : WRecord
-  pub answer : Answer
-  pub reply : Reply
+-- what a message does to the panel of its link
+unfoldable pub turned : Heard → List ℕ → WRecord → Turn WRecord
+turned (Refused a) vs w = left w a
+turned (Broken source) vs w = record { after = w; answer = EnvelopeWrong; reply = bytesOf (Nak source) }
+turned (Strange source) vs w = record { after = w; answer = NotUnderstood; reply = bytesOf (Nak source) }
+turned (Understood source o) vs w = record { after = carried o vs w; answer = Done; reply = bytesOf (replyTo source o w) }
 
-unfoldable pub turned : Heard → List ℕ → WRecord → Turn
-turned (Refused a) vs w = record { after = w; answer = a; reply = Silent }
-turned (Broken source) vs w = record { after = w; answer = EnvelopeWrong; reply = Nak source }
-turned (Strange source) vs w = record { after = w; answer = NotUnderstood; reply = Nak source }
-turned (Understood source o) vs w = record { after = carried o vs w; answer = Done; reply = replyTo source o w }
-
-abbrev pub turnOf : List ℕ → WRecord → Turn
-turnOf m w = turned (heardOf m) (valuesOf m) w
-
--- check 1: "reply area under 512 bytes" comes before all others
-unfoldable pub told : ℕ → List ℕ → WRecord → Turn
-told room m w = cond (ltb room 512) (record { after = w; answer = AreaTooSmall; reply = Silent }) (turnOf m w)
-
--- the promise: the record after the message, the answer, the reply's length and the whole area
-pub record Takes (m : List ℕ) (w : WRecord) (area : List ℕ) (r : Taken) (area′ : List ℕ) : Type 0 where
-  pub record-after : r .w ≡ told (length area) m w .after
-  pub answer-given : r .answer ≡ told (length area) m w .answer
-  pub sends : Sent (bytesOf (told (length area) m w .reply)) (r .len) area area′
+abbrev pub turnOf : List ℕ → WRecord → Turn WRecord
+turnOf m = turned (heardOf m) (valuesOf m)

@@ -16,9 +16,10 @@ ghost use lib.ListN.{length, getD, take, drop};
 ghost use Rattle.laws.specs.Bytes.{Sent};
 ghost use Rattle.laws.specs.Lists.{every, listed};
 ghost use Rattle.panels.specs.Records.{connectors, presets};
+ghost use Rattle.turns.specs.Turns.{Takes};
 ghost use Rattle.rs232c.specs.Frames.{isForeign, isBroken, configCommand, selectCommand, levelsCommand, senseCommand, commandOf, heardOf, valuesOf};
 ghost use Rattle.rs232c.specs.Orders.{placeOf, connectorGood, presetGood, configGood, usedAfter, presetAfter, selectGood, turnedOff, onAfter, gainOf, biasOf, said, put, decode, puts, configuredBy, selectedBy, balancedBy, carried};
-ghost use Rattle.rs232c.specs.Replies.{frameOf, balancesBlock, bytesOf, biasBits, sensed, replyTo, Takes};
+ghost use Rattle.rs232c.specs.Replies.{frameOf, balancesBlock, bytesOf, biasBits, sensed, replyTo, turnOf};
 
 // What a command block orders.
 pub enum Order {
@@ -580,7 +581,7 @@ fn send(reply: Reply, area: &mut [u8]) -> usize
 
 // A frame on the RS-232C port of a W panel.
 pub fn take_frame(w: WRecord, m: &[u8], area: &mut [u8]) -> Taken
-    ensures { λ r. ⌜ Takes (now (m .entry)) w (now (area .entry)) r (now (area .exit)) ⌝ }
+    ensures { λ r. ⌜ Takes (turnOf (now (m .entry))) w (now (area .entry)) (r .w) (r .answer) (r .len) (now (area .exit)) ⌝ }
 {
     if area.len() < 512 {
         return Taken {

@@ -16,10 +16,10 @@ use Rattle.terms.specs.declared.Answer.the-variants.{WrongLength, NotForUs}
 use Rattle.vmc.specs.Reading.{readData}
 use Rattle.vmc.specs.declared.Words.{Words}
 use Rattle.vmc.specs.declared.Words.the-variants.{Understood as UnderstoodWords, Strange as StrangeWords}
-use Rattle.sdcp.specs.Packets.{isOurs, isBroken, inWords, dataOf, heardOf}
+use Rattle.sdcp_asks.specs.Packets.{isOurs, isBroken, inWords, dataOf, heardOf}
 use Rattle.sdcp.specs.Replies.{packetOf}
-use Rattle.sdcp.specs.declared.Heard.{Heard}
-use Rattle.sdcp.specs.declared.Heard.the-variants.{Refused, Broken, Strange, Understood}
+use Rattle.sdcp_asks.specs.declared.Heard.{Heard}
+use Rattle.sdcp_asks.specs.declared.Heard.the-variants.{Refused, Broken, Strange, Understood}
 
 two : (l : List ℕ) → length l ≡ 2 → getD l 0 0 ∷ getD l 1 0 ∷ [] ≡ l
 two [] e = absurd (omega arith)

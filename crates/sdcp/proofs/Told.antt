@@ -1,6 +1,6 @@
 -- Every answer but 0 leaves the record, a valid record stays valid, and no reply carries F010h: by the cases of what a packet asks.
 use mathlib.Core.Path.{_≡_, refl, ap}
-use mathlib.Core.Bool.{Bool, true, false, not, cond}
+use mathlib.Core.Bool.{true, not}
 use mathlib.Core.List.{List, [], _∷_}
 use Prim.Native.Nat.{ℕ}
 use native.Mathlib.Omega.{arith}
@@ -8,7 +8,9 @@ use lib.Dec.{ltb}
 use lib.ListN.{length, getD}
 use Rattle.laws.proofs.Conditions.{choose}
 use Rattle.terms.specs.Answers.{numberOf}
-use Rattle.terms.specs.declared.Answer.the-variants.{AreaTooSmall, WrongLength, NotForUs}
+use Rattle.terms.specs.declared.Answer.the-variants.{WrongLength, NotForUs}
+use Rattle.turns.specs.Turns.{Turn, taken}
+use Rattle.turns.proofs.Turns.{either, refusal-leaves as leaves}
 use Rattle.panels.specs.Valid.{okW}
 use Rattle.panels.specs.declared.WRecord.{WRecord}
 use Rattle.vmc.specs.Reading.{readData}
@@ -17,70 +19,54 @@ use Rattle.vmc.specs.declared.Words.{Words}
 use Rattle.vmc.specs.declared.Words.the-variants.{Understood as UnderstoodWords, Strange as StrangeWords}
 use Rattle.vmc.proofs.Kept.{carried-valid}
 use Rattle.vmc.proofs.Plain.{low-text}
-use Rattle.sdcp.specs.Packets.{isOurs, isBroken, dataOf, inWords, heardOf}
-use Rattle.sdcp.specs.Replies.{packetOf, bytesOf, Turn, answerOf, turned, told}
-use Rattle.sdcp.specs.declared.Heard.{Heard}
-use Rattle.sdcp.specs.declared.Heard.the-variants.{Refused, Broken, Strange, Understood}
+use Rattle.sdcp_asks.specs.Packets.{isOurs, isBroken, dataOf, inWords, heardOf}
+use Rattle.sdcp.specs.Replies.{packetOf, bytesOf, answerOf, turned, turnOf}
+use Rattle.sdcp_asks.specs.declared.Heard.{Heard}
+use Rattle.sdcp_asks.specs.declared.Heard.the-variants.{Refused, Broken, Strange, Understood}
 use Rattle.sdcp.specs.declared.Reply.{Reply}
 use Rattle.sdcp.specs.declared.Reply.the-variants.{Silent, Ng, Ok}
 
 -- the answer is that of what was heard, whatever the panel
-pub turned-answer : (h : Heard) (w : WRecord) → turned h w .answer ≡ answerOf h
+pub turned-answer : (m : List ℕ) (h : Heard) (w : WRecord) → turned m h w .answer ≡ answerOf h
 unfolding turned
-turned-answer (Refused a) w = refl
-turned-answer Broken w = refl
-turned-answer Strange w = refl
-turned-answer (Understood o) w = refl
+turned-answer m (Refused a) w = refl
+turned-answer m Broken w = refl
+turned-answer m Strange w = refl
+turned-answer m (Understood o) w = refl
 
-pub turn-leaves : (h : Heard) (w : WRecord) → (numberOf (turned h w .answer) ≡ 0 → ⊥) → turned h w .after ≡ w
+pub turn-leaves : (m : List ℕ) (h : Heard) (w : WRecord) → (numberOf (turned m h w .answer) ≡ 0 → ⊥) → turned m h w .after ≡ w
 unfolding turned
-turn-leaves (Refused a) w n = refl
-turn-leaves Broken w n = refl
-turn-leaves Strange w n = refl
-turn-leaves (Understood o) w n = absurd (n refl)
+turn-leaves m (Refused a) w n = refl
+turn-leaves m Broken w n = refl
+turn-leaves m Strange w n = refl
+turn-leaves m (Understood o) w n = absurd (n refl)
 
 -- every answer but 0 leaves the record as it was
-pub refusal-leaves : (room : ℕ) (m : List ℕ) (w : WRecord) → (numberOf (told room m w .answer) ≡ 0 → ⊥) → told room m w .after ≡ w
-unfolding told
-refusal-leaves room m w n = go (ltb room 512) n
-  where
-    small : Turn
-    small = record { after = w; answer = AreaTooSmall; reply = Silent }
-
-    go : (b : Bool) → (numberOf (cond b small (turned (heardOf m) w) .answer) ≡ 0 → ⊥) → cond b small (turned (heardOf m) w) .after ≡ w
-    go true n = refl
-    go false n = turn-leaves (heardOf m) w n
+pub refusal-leaves : (room : ℕ) (m : List ℕ) (w : WRecord) → (numberOf (taken room (turnOf m) w .answer) ≡ 0 → ⊥) → taken room (turnOf m) w .after ≡ w
+refusal-leaves room m w = leaves room (turnOf m) w (turn-leaves m (heardOf m) w)
 
 -- ---- a valid record stays valid
 
 -- what was heard leaves or makes a valid record
-abbrev Keeps : WRecord → Heard → Type 0
-Keeps w h = okW w ≡ true → okW (turned h w .after) ≡ true
+abbrev Keeps : List ℕ → WRecord → Heard → Type 0
+Keeps m w h = okW w ≡ true → okW (turned m h w .after) ≡ true
 
-words-keep : (d : List ℕ) (w : WRecord) (x : Words) → readData d ≡ x → Keeps w (inWords x)
+words-keep : (m d : List ℕ) (w : WRecord) (x : Words) → readData d ≡ x → Keeps m w (inWords x)
 unfolding turned
-words-keep d w (UnderstoodWords o) e v = carried-valid d o w e v
-words-keep d w StrangeWords e v = v
+words-keep m d w (UnderstoodWords o) e v = carried-valid d o w e v
+words-keep m d w StrangeWords e v = v
 
-pub turned-valid : (m : List ℕ) (w : WRecord) → okW w ≡ true → okW (turned (heardOf m) w .after) ≡ true
+pub turned-valid : (m : List ℕ) (w : WRecord) → okW w ≡ true → okW (turnOf m w .after) ≡ true
 unfolding heardOf turned
 turned-valid m w =
-    choose (Keeps w) (ltb (length m) 13) (Refused WrongLength) _ (λ e v. v) (λ e.
-    choose (Keeps w) (not (isOurs m)) (Refused NotForUs) _ (λ f v. v) (λ f.
-    choose (Keeps w) (isBroken m) Broken _ (λ g v. v) (λ g.
-    words-keep (dataOf m) w (readData (dataOf m)) refl)))
+    choose (Keeps m w) (ltb (length m) 13) (Refused WrongLength) _ (λ e v. v) (λ e.
+    choose (Keeps m w) (not (isOurs m)) (Refused NotForUs) _ (λ f v. v) (λ f.
+    choose (Keeps m w) (isBroken m) Broken _ (λ g v. v) (λ g.
+    words-keep m (dataOf m) w (readData (dataOf m)) refl)))
 
 -- whatever the packet and the area
-pub stays-valid : (room : ℕ) (m : List ℕ) (w : WRecord) → okW w ≡ true → okW (told room m w .after) ≡ true
-unfolding told
-stays-valid room m w v = go (ltb room 512)
-  where
-    small : Turn
-    small = record { after = w; answer = AreaTooSmall; reply = Silent }
-
-    go : (b : Bool) → okW (cond b small (turned (heardOf m) w) .after) ≡ true
-    go true = v
-    go false = turned-valid m w v
+pub stays-valid : (room : ℕ) (m : List ℕ) (w : WRecord) → okW w ≡ true → okW (taken room (turnOf m) w .after) ≡ true
+stays-valid room m w v = either (λ (t : Turn WRecord). okW (t .after) ≡ true) room (turnOf m) w v (turned-valid m w v)
 
 -- ---- "Error F010h is never sent."
 

@@ -18,7 +18,7 @@ use Rattle.panels.specs.Records.{familyW, familyK}
 use Rattle.panels.specs.Valid.{okPanel, distinct, inUse, valid}
 use Rattle.panels.specs.declared.Panel.{Panel}
 use Rattle.panels.specs.declared.DisplayBox.{DisplayBox}
-use Rattle.sdcp.specs.Packets.{front, isOurs, groupOf, unitOf}
+use Rattle.sdcp_asks.specs.Packets.{front, isOurs, groupOf, unitOf}
 use Rattle.steps.specs.Messages.{rs232c, kjw, tcp, udp, Name, nobody, aW, aK, nameOf, names, isW}
 use Rattle.steps.specs.Addressing.{hasIds, isId, isPair, pairNumber, byTcp, target, isCalled, addressed}
 use Rattle.steps.specs.Step.{panelAt}

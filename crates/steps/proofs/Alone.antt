@@ -1,8 +1,8 @@
 -- Demand 3: a place's record and its replies are decided by the messages that are addressed to it. A step at one place is that
 -- place's turn, so the general law of runs applies.
-use mathlib.Core.Path.{_≡_, refl, ap, _∙_}
+use mathlib.Core.Path.{_≡_, refl, sym, ap, _∙_}
 use mathlib.Core.Bool.{Bool, true, false, cond, _&&_, and-true, and-false}
-use mathlib.Core.List.{List, [], map}
+use mathlib.Core.List.{List, [], _∷_, map}
 use Prim.Native.Nat.{ℕ, _%_, _<_}
 use native.Mathlib.Omega.{arith}
 use lib.Dec.{eqb}
@@ -11,7 +11,9 @@ use Rattle.laws.proofs.Conditions.{choose}
 use Rattle.laws.proofs.Lists.{places-length}
 use Rattle.laws.proofs.Runs.{Alone, isolated}
 use Rattle.terms.specs.Answers.{numberOf}
+use Rattle.terms.specs.declared.Answer.{Answer}
 use Rattle.terms.specs.declared.Answer.the-variants.{Done}
+use Rattle.turns.specs.Turns.{Turn}
 use Rattle.panels.specs.Configure.{askedAt, asked, refusal, configured}
 use Rattle.panels.specs.Valid.{inUse, valid}
 use Rattle.panels.specs.declared.Panel.{Panel}
@@ -20,32 +22,37 @@ use Rattle.panels.specs.declared.Configured.{Configured}
 use Rattle.panels.proofs.Boxes as boxes
 use Rattle.steps.specs.Messages.{Message, rs232c, kjw, tcp, udp, Name, nameOf, names}
 use Rattle.steps.specs.Addressing.{addressed}
-use Rattle.steps.specs.Step.{Turn, turn, Back, back, panelAt, ownTurn, passed, refused, door, step}
-use Rattle.steps.specs.Run.{after, run, kept, replies}
+use Rattle.steps.specs.Step.{turn, Back, back, panelAt, ownTurn, answerTo, Outcome, passed, refused, door, step}
+use Rattle.steps.specs.Run.{Got, gotBy, after, run, kept, replies}
 use Rattle.steps.proofs.Door.{opens, at-step}
 use Rattle.steps.proofs.Kept.{places-kept, valid-names, names-kept}
-use Rattle.steps.proofs.Refused.{own-turn}
+use Rattle.steps.proofs.Refused.{own-turn, own-answer}
 
 -- what a panel that is addressed becomes, and what goes back for it: its turn, if the door is passed
 abbrev becomes : List Name → Message → Panel → Panel
-becomes ns m p = cond (opens ns m) (turn m p .panel) p
+becomes ns m p = cond (opens ns m) (turn m p .after) p
 
-abbrev says : List Name → Message → Panel → Back
-says ns m p = cond (opens ns m) (back m (turn m p .reply)) (back m [])
+abbrev says : List Name → Message → Panel → Got
+says ns m p = cond (opens ns m) (record { answer = turn m p .answer; back = back m (turn m p .reply) }) (record { answer = door ns m; back = back m [] })
 
 own-back : (ns : List Name) (b : DisplayBox) (m : Message) (i : ℕ) → addressed ns m i ≡ true → back m (ownTurn ns b m .reply) ≡ back m (turn m (panelAt i b) .reply)
 unfolding addressed
-own-back ns b (rs232c l m area) i e = ap (λ (t : Turn). back (rs232c l m area) (t .reply)) (own-turn ns b (rs232c l m area) i e)
-own-back ns b (kjw l m area) i e = ap (λ (t : Turn). back (kjw l m area) (t .reply)) (own-turn ns b (kjw l m area) i e)
-own-back ns b (tcp l m area) i e = ap (λ (t : Turn). back (tcp l m area) (t .reply)) (own-turn ns b (tcp l m area) i e)
+own-back ns b (rs232c l m area) i e = ap (λ (t : Turn Panel). back (rs232c l m area) (t .reply)) (own-turn ns b (rs232c l m area) i e)
+own-back ns b (kjw l m area) i e = ap (λ (t : Turn Panel). back (kjw l m area) (t .reply)) (own-turn ns b (kjw l m area) i e)
+own-back ns b (tcp l m area) i e = ap (λ (t : Turn Panel). back (tcp l m area) (t .reply)) (own-turn ns b (tcp l m area) i e)
 own-back ns b (udp m) i e = refl
 
-back-step : (b : DisplayBox) (m : Message) (i : ℕ) → addressed (names b) m i ≡ true → step b m .back ≡ says (names b) m (panelAt i b)
+got-step : (b : DisplayBox) (m : Message) (i : ℕ) → addressed (names b) m i ≡ true → gotBy b m ≡ says (names b) m (panelAt i b)
 unfolding step
-back-step b m i e = go (opens (names b) m)
+got-step b m i e = go (opens (names b) m)
   where
-    go : (o : Bool) → cond o (passed (names b) b m) (refused b m (door (names b) m)) .back ≡ cond o (back m (turn m (panelAt i b) .reply)) (back m [])
-    go true = own-back (names b) b m i e
+    got : Outcome → Got
+    got o = record { answer = o .answer; back = o .back }
+
+    go : (o : Bool) → got (cond o (passed (names b) b m) (refused b m (door (names b) m))) ≡ cond o (record { answer = turn m (panelAt i b) .answer; back = back m (turn m (panelAt i b) .reply) }) (record { answer = door (names b) m; back = back m [] })
+    go true =
+        ap (λ (a : Answer). record { answer = a; back = back m (ownTurn (names b) b m .reply) }) (own-answer (names b) b m i e)
+        ∙ ap (λ (x : Back). record { answer = turn m (panelAt i b) .answer; back = x }) (own-back (names b) b m i e)
     go false = refl
 
 left-step : (b : DisplayBox) (m : Message) (i : ℕ) → i < length (b .panels) → addressed (names b) m i ≡ false → panelAt i (step b m .box) ≡ panelAt i b
@@ -54,20 +61,33 @@ left-step b m i h e = at-step b m i h ∙ rw (e, and-false (opens (names b) m))
 turn-step : (b : DisplayBox) (m : Message) (i : ℕ) → i < length (b .panels) → addressed (names b) m i ≡ true → panelAt i (step b m .box) ≡ becomes (names b) m (panelAt i b)
 turn-step b m i h e = at-step b m i h ∙ rw (e, and-true (opens (names b) m))
 
-alone : (i : ℕ) → Alone (λ (b : DisplayBox). i < length (b .panels)) names (panelAt i) after (λ (b : DisplayBox) (m : Message). step b m .back) (λ (ns : List Name) (m : Message). ns) (λ (ns : List Name) (m : Message). addressed ns m i) becomes says
+alone : (i : ℕ) → Alone (λ (b : DisplayBox). i < length (b .panels)) names (panelAt i) after gotBy (λ (ns : List Name) (m : Message). ns) (λ (ns : List Name) (m : Message). addressed ns m i) becomes says
 alone i = record {
   stays-sound = λ b m h. rw (places-kept b m) h;
   names-after = λ b m h. names-kept b m;
   names-kept = λ ns m e. refl;
   left = λ b m h e. left-step b m i h e;
   turns = λ b m h e. turn-step b m i h e;
-  says-so = λ b m h e. back-step b m i e;
+  says-so = λ b m h e. got-step b m i e;
 }
 
 -- two runs of one box that keep the same messages for a place, in the same order, leave the same panel there and the same replies
 -- to these messages: whatever else came, and however much of it
 pub demand-3 : (b : DisplayBox) (i : ℕ) (ms ms′ : List Message) → i < length (b .panels) → kept i (names b) ms ≡ kept i (names b) ms′ → (panelAt i (run b ms) ≡ panelAt i (run b ms′)) × (replies i b ms ≡ replies i b ms′)
 demand-3 b i ms ms′ h k = isolated (alone i) b b ms ms′ h h refl refl k
+
+-- ---- struck out: the messages that are not addressed to the place may as well not have come
+
+kept-kept : (i : ℕ) (ns : List Name) (ms : List Message) → kept i ns (kept i ns ms) ≡ kept i ns ms
+kept-kept i ns [] = refl
+kept-kept i ns (m ∷ ms) = go (addressed ns m i) refl (kept-kept i ns ms)
+  where
+    go : (c : Bool) → addressed ns m i ≡ c → kept i ns (kept i ns ms) ≡ kept i ns ms → kept i ns (cond c (m ∷ kept i ns ms) (kept i ns ms)) ≡ cond c (m ∷ kept i ns ms) (kept i ns ms)
+    go true e r = rw e (ap (λ (x : List Message). m ∷ x) r)
+    go false e r = r
+
+pub struck-out : (b : DisplayBox) (i : ℕ) (ms : List Message) → i < length (b .panels) → (panelAt i (run b ms) ≡ panelAt i (run b (kept i (names b) ms))) × (replies i b ms ≡ replies i b (kept i (names b) ms))
+struck-out b i ms h = demand-3 b i ms (kept i (names b) ms) h (sym (kept-kept i (names b) ms))
 
 -- ---- of configured boxes
 

@@ -11,6 +11,7 @@ use lib.Seq.{getD-set-same}
 use borrow.Author.Tests.{le-ltb}
 use Rattle.laws.proofs.Conditions.{passed}
 use Rattle.terms.specs.declared.Answer.the-variants.{Done, WrongLength, NotForUs}
+use Rattle.turns.specs.Turns.{Turn, taken}
 use Rattle.panels.specs.declared.Panel.{Panel}
 use Rattle.panels.specs.declared.WRecord.{WRecord}
 use Rattle.panels.specs.declared.DisplayBox.{DisplayBox}
@@ -25,10 +26,10 @@ use Rattle.vmc.specs.declared.Words.{Words}
 use Rattle.vmc.specs.declared.Words.the-variants.{Understood as UnderstoodWords, Strange as StrangeWords}
 use Rattle.vmc.proofs.Kept.{understood-fits}
 use Rattle.vmc.proofs.Asked.{set-told, shift-told, reset-told}
-use Rattle.sdcp.specs.Packets.{isOurs, isBroken, inWords, dataOf, heardOf}
+use Rattle.sdcp_asks.specs.Packets.{isOurs, isBroken, inWords, dataOf, heardOf}
 use Rattle.sdcp.specs.Replies as packets
-use Rattle.sdcp.specs.declared.Heard.{Heard}
-use Rattle.sdcp.specs.declared.Heard.the-variants.{Refused, Broken, Understood}
+use Rattle.sdcp_asks.specs.declared.Heard.{Heard}
+use Rattle.sdcp_asks.specs.declared.Heard.the-variants.{Refused, Broken, Understood}
 use Rattle.sdcp.specs.declared.Reply.the-variants.{Ok}
 use Rattle.steps.specs.Messages.{Message, tcp, udp, names}
 use Rattle.steps.specs.Addressing.{addressed}
@@ -45,8 +46,8 @@ pub data Brings (p : List ℕ) : Message → Type 0 where
   by-udp : Brings p (udp p)
 
 -- what a panel does with an order that it understood, where there is room for the reply
-told-order : (room : ℕ) (p : List ℕ) (o : Order) (w : WRecord) → 512 ≤ room → heardOf p ≡ Understood o → packets.told room p w ≡ record { after = carried o w; answer = Done; reply = Ok (toldOf o w) }
-unfolding packets.told packets.turned
+told-order : (room : ℕ) (p : List ℕ) (o : Order) (w : WRecord) → 512 ≤ room → heardOf p ≡ Understood o → taken room (packets.turnOf p) w ≡ record { after = carried o w; answer = Done; reply = packets.bytesOf p (Ok (toldOf o w)) }
+unfolding taken packets.turned
 told-order room p o w h e = rw (le-ltb room 512 h, e)
 
 -- what is understood is carried out on the record of each panel that it comes to
@@ -54,10 +55,10 @@ pub obeyed : {b : DisplayBox} {m : Message} {i : ℕ} (p : List ℕ) (o : Order)
 unfolding turn packets.turned
 obeyed {b} {m} {i} p o (by-tcp l area) e r =
     ap (λ (x : Panel). x .w) (takes r .panel-is)
-    ∙ ap (λ (t : packets.Turn). t .after) (told-order (length area) p o (panelAt i b .w) (door-passed (names b) (tcp l p area) (r .passes) .room) e)
+    ∙ ap (λ (t : Turn WRecord). t .after) (told-order (length area) p o (panelAt i b .w) (door-passed (names b) (tcp l p area) (r .passes) .room) e)
 obeyed {b} {m} {i} p o by-udp e r =
     ap (λ (x : Panel). x .w) (takes r .panel-is)
-    ∙ ap (λ (h : Heard). packets.turned h (panelAt i b .w) .after) e
+    ∙ ap (λ (h : Heard). packets.turned p h (panelAt i b .w) .after) e
 
 -- a packet by TCP is answered 0, and its OK carries these words
 pub record Tells (b : DisplayBox) (l : ℕ) (p area words : List ℕ) : Type 0 where
@@ -68,11 +69,11 @@ pub record Tells (b : DisplayBox) (l : ℕ) (p area words : List ℕ) : Type 0 w
 pub asked : (b : DisplayBox) (i l k : ℕ) (p area : List ℕ) → Reaches b (tcp l p area) i → heardOf p ≡ Understood (Get k) → Tells b l p area (textOf (toldOf (Get k) (panelAt i b .w)))
 unfolding turn packets.bytesOf
 asked b i l k p area r e = record {
-  says-done = takes r .answer-is ∙ ap (λ (t : packets.Turn). t .answer) f;
-  carries = takes r .back-is ∙ ap (λ (t : packets.Turn). backOn area (packets.bytesOf p (t .reply))) f;
+  says-done = takes r .answer-is ∙ ap (λ (t : Turn WRecord). t .answer) f;
+  carries = takes r .back-is ∙ ap (λ (t : Turn WRecord). backOn area (t .reply)) f;
 }
   where
-    f : packets.told (length area) p (panelAt i b .w) ≡ record { after = carried (Get k) (panelAt i b .w); answer = Done; reply = Ok (toldOf (Get k) (panelAt i b .w)) }
+    f : taken (length area) (packets.turnOf p) (panelAt i b .w) ≡ record { after = carried (Get k) (panelAt i b .w); answer = Done; reply = packets.bytesOf p (Ok (toldOf (Get k) (panelAt i b .w))) }
     f = told-order (length area) p (Get k) (panelAt i b .w) (door-passed (names b) (tcp l p area) (r .passes) .room) e
 
 -- a packet that is understood has words that are

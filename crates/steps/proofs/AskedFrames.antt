@@ -7,13 +7,15 @@ use lib.ListN.{length}
 use borrow.Author.Tests.{eq-eqb}
 use Rattle.laws.specs.Bytes.{ascii}
 use Rattle.terms.specs.declared.Answer.the-variants.{Done}
+use Rattle.turns.specs.Turns.{Turn, taken}
+use Rattle.turns.proofs.Turns.{roomy}
 use Rattle.panels.specs.declared.Panel.{Panel}
 use Rattle.panels.specs.declared.KRecord.{KRecord}
 use Rattle.panels.specs.declared.DisplayBox.{DisplayBox}
 use Rattle.kjw.specs.Frames.{frameOf, typeControl, typeEnquiry, typeAnswer, blank, nameOf, valueOf}
-use Rattle.kjw.specs.Rules.{flipped, withPower, withPmut, Outcome, met}
+use Rattle.kjw.specs.Rules.{flipped, withPower, withPmut, turned}
 use Rattle.kjw.specs.declared.State.{State}
-use Rattle.kjw.proofs.Door.{met-turned, met-kept}
+use Rattle.kjw.proofs.Door.{taken-kept}
 use Rattle.kjw.proofs.Told.{asked-reply, toggled-power, toggled-picture}
 use Rattle.steps.specs.Messages.{Message, kjw, names}
 use Rattle.steps.specs.Addressing.{target, addressed}
@@ -28,24 +30,24 @@ module _ (b : DisplayBox) (i : ℕ) (m area : List ℕ) (d : step b (kjw (suc i)
   unfolding addressed target
   came = done-reaches b (kjw (suc i) m area) i d (eq-eqb (suc i) (suc i) refl)
 
-  done : met (length area) m (panelAt i b .k) .answer ≡ Done
+  done : taken (length area) (turned m) (panelAt i b .k) .answer ≡ Done
   unfolding turn
   done = sym (takes came .answer-is) ∙ d
 
-  after : panelAt i (step b (kjw (suc i) m area) .box) .k ≡ met (length area) m (panelAt i b .k) .k
+  after : panelAt i (step b (kjw (suc i) m area) .box) .k ≡ taken (length area) (turned m) (panelAt i b .k) .after
   unfolding turn
   after = ap (λ (p : Panel). p .k) (takes came .panel-is)
 
 -- an enquiry is answered with the value of its state
-met-asked : (room : ℕ) (s : State) (k : KRecord) → 512 ≤ room → met room (frameOf typeEnquiry (nameOf s) blank) k .reply ≡ frameOf typeAnswer (nameOf s) (valueOf s k)
-met-asked room s k h = ap (λ (o : Outcome). o .reply) (met-turned room (frameOf typeEnquiry (nameOf s) blank) k h) ∙ asked-reply s k
+taken-asked : (room : ℕ) (s : State) (k : KRecord) → 512 ≤ room → taken room (turned (frameOf typeEnquiry (nameOf s) blank)) k .reply ≡ frameOf typeAnswer (nameOf s) (valueOf s k)
+taken-asked room s k h = ap (λ (t : Turn KRecord). t .reply) (roomy room (turned (frameOf typeEnquiry (nameOf s) blank)) k h) ∙ asked-reply s k
 
 -- that of the panel that it comes to
 pub enquiry-asked : (b : DisplayBox) (i l : ℕ) (s : State) (area : List ℕ) → Reaches b (kjw l (frameOf typeEnquiry (nameOf s) blank) area) i → step b (kjw l (frameOf typeEnquiry (nameOf s) blank) area) .back ≡ backOn area (frameOf typeAnswer (nameOf s) (valueOf s (panelAt i b .k)))
 unfolding turn
 enquiry-asked b i l s area r =
     let room = door-passed (names b) (kjw l (frameOf typeEnquiry (nameOf s) blank) area) (r .passes) .room in
-    takes r .back-is ∙ ap (backOn area) (met-asked (length area) s (panelAt i b .k) room)
+    takes r .back-is ∙ ap (backOn area) (taken-asked (length area) s (panelAt i b .k) room)
 
 -- POWR, AMUT, PMUT, VOLU, INPT and SCEN: an enquiry that comes to the panel next, or after any messages of which none that is addressed to it sets the state, is answered with the control's own parameters
 pub control-asked : (b : DisplayBox) (i l : ℕ) (s : State) (p area area′ : List ℕ) (ms : List Message) → length p ≡ 16 → step b (kjw (suc i) (frameOf typeControl (nameOf s) p) area) .answer ≡ Done → spared (λ (m : Message). setsState m s) i (step b (kjw (suc i) (frameOf typeControl (nameOf s) p) area) .box) ms ≡ true → Reaches (run (step b (kjw (suc i) (frameOf typeControl (nameOf s) p) area) .box) ms) (kjw l (frameOf typeEnquiry (nameOf s) blank) area′) i → step (run (step b (kjw (suc i) (frameOf typeControl (nameOf s) p) area) .box) ms) (kjw l (frameOf typeEnquiry (nameOf s) blank) area′) .back ≡ backOn area′ (frameOf typeAnswer (nameOf s) p)
@@ -55,9 +57,9 @@ control-asked b i l s p area area′ ms h d n r =
     let c = step b (kjw (suc i) control area) .box in
     let room = door-passed (names (run c ms)) (kjw l enquiry area′) (r .passes) .room in
     let set =
-    sym (met-asked (length area′) s (panelAt i c .k) room)
-    ∙ ap (λ (k : KRecord). met (length area′) enquiry k .reply) (after b i control area d)
-    ∙ met-kept (length area) (length area′) s p (panelAt i b .k) h (done b i control area d) room in
+    sym (taken-asked (length area′) s (panelAt i c .k) room)
+    ∙ ap (λ (k : KRecord). taken (length area′) (turned enquiry) k .reply) (after b i control area d)
+    ∙ taken-kept (length area) (length area′) s p (panelAt i b .k) h (done b i control area d) room in
     enquiry-asked (run c ms) i l s area′ r
     ∙ ap (λ (v : List ℕ). backOn area′ (frameOf typeAnswer (nameOf s) v)) (value-lasts s ms c i n)
     ∙ ap (backOn area′) set
@@ -67,11 +69,11 @@ pub power-toggled : (b : DisplayBox) (i : ℕ) (area : List ℕ) → step b (kjw
 power-toggled b i area d =
     let m = frameOf typeControl (ascii "TPOW") blank in
     let room = door-passed (names b) (kjw (suc i) m area) (came b i m area d .passes) .room in
-    after b i m area d ∙ ap (λ (o : Outcome). o .k) (met-turned (length area) m (panelAt i b .k) room) ∙ toggled-power (panelAt i b .k)
+    after b i m area d ∙ ap (λ (t : Turn KRecord). t .after) (roomy (length area) (turned m) (panelAt i b .k) room) ∙ toggled-power (panelAt i b .k)
 
 -- TPMU turns the picture mute over
 pub picture-toggled : (b : DisplayBox) (i : ℕ) (area : List ℕ) → step b (kjw (suc i) (frameOf typeControl (ascii "TPMU") blank) area) .answer ≡ Done → panelAt i (step b (kjw (suc i) (frameOf typeControl (ascii "TPMU") blank) area) .box) .k ≡ withPmut (flipped (panelAt i b .k .pmut)) (panelAt i b .k)
 picture-toggled b i area d =
     let m = frameOf typeControl (ascii "TPMU") blank in
     let room = door-passed (names b) (kjw (suc i) m area) (came b i m area d .passes) .room in
-    after b i m area d ∙ ap (λ (o : Outcome). o .k) (met-turned (length area) m (panelAt i b .k) room) ∙ toggled-picture (panelAt i b .k)
+    after b i m area d ∙ ap (λ (t : Turn KRecord). t .after) (roomy (length area) (turned m) (panelAt i b .k) room) ∙ toggled-picture (panelAt i b .k)

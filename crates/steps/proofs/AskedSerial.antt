@@ -7,13 +7,14 @@ use lib.IntN.{pos}
 use lib.ListN.{length, getD}
 use borrow.Author.Tests.{eq-eqb}
 use Rattle.terms.specs.declared.Answer.the-variants.{Done}
+use Rattle.turns.specs.Turns.{taken}
 use Rattle.panels.specs.declared.Panel.{Panel}
 use Rattle.panels.specs.declared.Balance.{Balance}
 use Rattle.panels.specs.declared.WRecord.{WRecord}
 use Rattle.panels.specs.declared.DisplayBox.{DisplayBox}
 use Rattle.rs232c.specs.Frames.{heardOf, valuesOf}
 use Rattle.rs232c.specs.Orders.{silent, gainOf, biasOf, decode, put}
-use Rattle.rs232c.specs.Replies.{bytesOf, remoteOf, sensed, told}
+use Rattle.rs232c.specs.Replies.{bytesOf, remoteOf, sensed, turnOf}
 use Rattle.rs232c.specs.declared.Three.{Three}
 use Rattle.rs232c.specs.declared.Order.the-variants.{Config, Select, Levels, Sense, Remote}
 use Rattle.rs232c.specs.declared.Heard.the-variants.{Understood}
@@ -28,13 +29,13 @@ use Rattle.steps.proofs.Stays.{bears, spared, balance-lasts}
 use Rattle.steps.proofs.Turns.{Reaches, door-passed, done-reaches, takes}
 
 -- a message that comes to the panel of its link: the record afterwards and the reply
-after : {b : DisplayBox} {l i : ℕ} {m area : List ℕ} → Reaches b (rs232c l m area) i → panelAt i (step b (rs232c l m area) .box) .w ≡ told (length area) m (panelAt i b .w) .after
+after : {b : DisplayBox} {l i : ℕ} {m area : List ℕ} → Reaches b (rs232c l m area) i → panelAt i (step b (rs232c l m area) .box) .w ≡ taken (length area) (turnOf m) (panelAt i b .w) .after
 unfolding turn
 after r = ap (λ (p : Panel). p .w) (takes r .panel-is)
 
-replies : {b : DisplayBox} {l i : ℕ} {m area : List ℕ} (x : Reply) → Reaches b (rs232c l m area) i → told (length area) m (panelAt i b .w) .reply ≡ x → step b (rs232c l m area) .back ≡ backOn area (bytesOf x)
+replies : {b : DisplayBox} {l i : ℕ} {m area : List ℕ} (x : Reply) → Reaches b (rs232c l m area) i → taken (length area) (turnOf m) (panelAt i b .w) .reply ≡ bytesOf x → step b (rs232c l m area) .back ≡ backOn area (bytesOf x)
 unfolding turn
-replies {area} x r e = takes r .back-is ∙ ap (λ (y : Reply). backOn area (bytesOf y)) e
+replies {area} x r e = takes r .back-is ∙ ap (backOn area) e
 
 -- 6Eh tells REMOTE as it stands in the record of the panel that it comes to, whoever set it
 pub remote-asked : (b : DisplayBox) (i l s : ℕ) (m area : List ℕ) → Reaches b (rs232c l m area) i → heardOf m ≡ Understood s Remote → step b (rs232c l m area) .back ≡ backOn area (bytesOf (State s (remoteOf (panelAt i b .w))))
@@ -48,7 +49,7 @@ module _ (b : DisplayBox) (i s : ℕ) (m area : List ℕ) (d : step b (rs232c (s
   unfolding addressed target
   came = done-reaches b (rs232c (suc i) m area) i d (eq-eqb (suc i) (suc i) refl)
 
-  done : told (length area) m (panelAt i b .w) .answer ≡ Done
+  done : taken (length area) (turnOf m) (panelAt i b .w) .answer ≡ Done
   unfolding turn
   done = sym (takes came .answer-is) ∙ d
 
@@ -72,6 +73,6 @@ module _ (b : DisplayBox) (i s : ℕ) (m area : List ℕ) (d : step b (rs232c (s
         let t = back.levels-then-sense (length area) s mask m (panelAt i b .w) g h done e (length area′) s′ which m′ room f in
         let stays = balance-lasts ms (step b (rs232c (suc i) m area) .box) i n ∙ ap (λ (w : WRecord). w .balance) (after came) in
         let told-then = back.sense-brings (length area′) s′ which m′ (panelAt i (run (step b (rs232c (suc i) m area) .box) ms) .w) room f in
-        let told-now = back.sense-brings (length area′) s′ which m′ (told (length area) m (panelAt i b .w) .after) room f in
-        let q = told-then ∙ ap (λ (x : Balance). Balances s′ which (sensed which x)) stays ∙ sym told-now ∙ t .3 in
+        let told-now = back.sense-brings (length area′) s′ which m′ (taken (length area) (turnOf m) (panelAt i b .w) .after) room f in
+        let q = told-then ∙ ap (λ (x : Balance). bytesOf (Balances s′ which (sensed which x))) stays ∙ sym told-now ∙ t .3 in
         (t .0, t .1, replies (Balances s′ which (t .0)) r (t .2), replies (Balances s′ which (t .1)) r′ q, t .4)

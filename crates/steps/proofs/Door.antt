@@ -18,7 +18,7 @@ use Rattle.terms.specs.declared.UnitId.{UnitId}
 use Rattle.panels.specs.Records.{pastEnd}
 use Rattle.panels.specs.declared.Panel.{Panel}
 use Rattle.panels.specs.declared.DisplayBox.{DisplayBox}
-use Rattle.sdcp.specs.Packets.{groupOf, unitOf}
+use Rattle.sdcp_asks.specs.Packets.{groupOf, unitOf}
 use Rattle.steps.specs.Messages.{Message, rs232c, kjw, tcp, udp, Name, nobody, aW, aK, names, onLink, isW, isK}
 use Rattle.steps.specs.Addressing.{hasIds, isId, isPair, byTcp, target, isCalled, addressed, pairNumber}
 use Rattle.steps.specs.Step.{lent, toNobody, door, turn, Outcome, panelAt, passed, refused, step}
@@ -117,10 +117,10 @@ unfolding step
 by-door P b m = choose P (opens (names b) m) (passed (names b) b m) (refused b m (door (names b) m))
 
 -- the panel at a place after a step: its turn where the door is passed and it is addressed, else the panel as it was
-pub at-step : (b : DisplayBox) (m : Message) (i : ℕ) → i < length (b .panels) → panelAt i (step b m .box) ≡ cond (opens (names b) m && addressed (names b) m i) (turn m (panelAt i b) .panel) (panelAt i b)
+pub at-step : (b : DisplayBox) (m : Message) (i : ℕ) → i < length (b .panels) → panelAt i (step b m .box) ≡ cond (opens (names b) m && addressed (names b) m i) (turn m (panelAt i b) .after) (panelAt i b)
 unfolding step
 at-step b m i h = go (opens (names b) m)
   where
-    go : (o : Bool) → panelAt i (cond o (passed (names b) b m) (refused b m (door (names b) m)) .box) ≡ cond (o && addressed (names b) m i) (turn m (panelAt i b) .panel) (panelAt i b)
-    go true = each-at (addressed (names b) m) (λ (p : Panel). turn m p .panel) (b .panels) i pastEnd h
+    go : (o : Bool) → panelAt i (cond o (passed (names b) b m) (refused b m (door (names b) m)) .box) ≡ cond (o && addressed (names b) m i) (turn m (panelAt i b) .after) (panelAt i b)
+    go true = each-at (addressed (names b) m) (λ (p : Panel). turn m p .after) (b .panels) i pastEnd h
     go false = refl

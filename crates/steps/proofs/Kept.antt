@@ -29,7 +29,7 @@ pub count-kept : (b : DisplayBox) (m : Message) → step b m .box .count ≡ b .
 count-kept b m = by-door (λ (o : Outcome). o .box .count ≡ b .count) b m (λ e. refl) (λ e. refl)
 
 pub places-kept : (b : DisplayBox) (m : Message) → length (step b m .box .panels) ≡ length (b .panels)
-places-kept b m = by-door (λ (o : Outcome). length (o .box .panels) ≡ length (b .panels)) b m (λ e. each-length (addressed (names b) m) (λ (p : Panel). turn m p .panel) (b .panels)) (λ e. refl)
+places-kept b m = by-door (λ (o : Outcome). length (o .box .panels) ≡ length (b .panels)) b m (λ e. each-length (addressed (names b) m) (λ (p : Panel). turn m p .after) (b .panels)) (λ e. refl)
 
 -- ---- names and validity
 
@@ -42,7 +42,7 @@ judged b v =
 -- the panels after turns of those that are called
 module _ (m : Message) where
   abbrev after-turn : Panel → Panel
-  after-turn p = turn m p .panel
+  after-turn p = turn m p .after
 
   turns-ok : (called : ℕ → Bool) (ps : List Panel) → every okPanel ps ≡ true → every okPanel (each called after-turn ps) ≡ true
   turns-ok called [] e = refl
@@ -156,17 +156,17 @@ takes-turn b m i h e = judge (valid b) refl
     judge false v = absurd (false-true (sym (bad-shut b m v) ∙ o))
 
 -- what holds of a panel as it was, and of its turn where it is in use and of the message's family, holds of it after a step
-by-place : (P : Panel → Type 0) (b : DisplayBox) (m : Message) (i : ℕ) → i < length (b .panels) → P (panelAt i b) → (i < b .count → speaks m (nameOf (panelAt i b)) ≡ true → P (turn m (panelAt i b) .panel)) → P (panelAt i (step b m .box))
+by-place : (P : Panel → Type 0) (b : DisplayBox) (m : Message) (i : ℕ) → i < length (b .panels) → P (panelAt i b) → (i < b .count → speaks m (nameOf (panelAt i b)) ≡ true → P (turn m (panelAt i b) .after)) → P (panelAt i (step b m .box))
 by-place P b m i h stay move =
     rw (at-step b m i h)
-    (choose P (opens (names b) m && addressed (names b) m i) (turn m (panelAt i b) .panel) (panelAt i b)
+    (choose P (opens (names b) m && addressed (names b) m i) (turn m (panelAt i b) .after) (panelAt i b)
     (λ e. let t = takes-turn b m i h e in move (t .0) (t .1)) (λ e. stay))
 
 -- the places behind the panels in use are given back as they came
 pub unused-kept : (b : DisplayBox) (m : Message) (i : ℕ) → i < length (b .panels) → b .count ≤ i → panelAt i (step b m .box) ≡ panelAt i b
 unused-kept b m i h k = by-place (λ (p : Panel). p ≡ panelAt i b) b m i h refl (λ l s. absurd (omega arith))
 
-w-turn : (m : Message) (p : Panel) → p .family ≡ familyW → speaks m (nameOf p) ≡ true → turn m p .panel .k ≡ p .k
+w-turn : (m : Message) (p : Panel) → p .family ≡ familyW → speaks m (nameOf p) ≡ true → turn m p .after .k ≡ p .k
 unfolding turn nameOf
 w-turn (rs232c l m area) p f s = refl
 w-turn (kjw l m area) p f s = absurd (false-true (rw (eq-eqb (p .family) familyW f) at s))
@@ -181,7 +181,7 @@ no-w : (p : Panel) → p .family ≡ familyK → isW (nameOf p) ≡ false
 unfolding nameOf
 no-w p f = rw f
 
-k-turn : (m : Message) (p : Panel) → p .family ≡ familyK → speaks m (nameOf p) ≡ true → turn m p .panel .w ≡ p .w
+k-turn : (m : Message) (p : Panel) → p .family ≡ familyK → speaks m (nameOf p) ≡ true → turn m p .after .w ≡ p .w
 unfolding turn
 k-turn (rs232c l m area) p f s = absurd (false-true (sym (no-w p f) ∙ s))
 k-turn (kjw l m area) p f s = refl

@@ -8,7 +8,9 @@ pub mod Door
 pub mod Finding
 pub mod Kept
 pub mod Numbered
+pub mod Obeyed
 pub mod Refused
+pub mod Shapes
 pub mod Sound
 pub mod Standins
 pub mod Stays

@@ -13,6 +13,8 @@ use Rattle.laws.proofs.Conditions.{choose}
 use Rattle.terms.specs.Answers.{numberOf}
 use Rattle.terms.specs.declared.Answer.{Answer}
 use Rattle.terms.specs.declared.Answer.the-variants.{Done, AreaTooSmall, NoSuchPanel, WrongLength, NotForUs}
+use Rattle.turns.specs.Turns.{Turn, taken}
+use Rattle.turns.proofs.Turns.{either}
 use Rattle.panels.specs.declared.Panel.{Panel}
 use Rattle.panels.specs.declared.WRecord.{WRecord}
 use Rattle.panels.specs.declared.KRecord.{KRecord}
@@ -31,11 +33,11 @@ use Rattle.kjw.specs.declared.State.the-variants.{Power, AudioMute, PictureMute
 use Rattle.kjw.specs.declared.Order as framesOrder
 use Rattle.kjw.specs.declared.Heard as framesHeard
 use Rattle.kjw.specs.declared.Heard.the-variants as framesIs
-use Rattle.sdcp.specs.Packets as packets
+use Rattle.sdcp_asks.specs.Packets as packets
 use Rattle.sdcp.specs.Replies as packetReplies
 use Rattle.sdcp.proofs.Told.{turned-answer}
-use Rattle.sdcp.specs.declared.Heard as packetsHeard
-use Rattle.sdcp.specs.declared.Heard.the-variants as packetsIs
+use Rattle.sdcp_asks.specs.declared.Heard as packetsHeard
+use Rattle.sdcp_asks.specs.declared.Heard.the-variants as packetsIs
 use Rattle.steps.specs.Messages.{Message, rs232c, kjw, tcp, udp, Name, names, onLink, isW, isK}
 use Rattle.steps.specs.Addressing.{target, anyCalled}
 use Rattle.steps.specs.Step.{lent, toNobody, door, turn, Outcome, answerTo, step}
@@ -75,10 +77,6 @@ serial-turned (serialIs.Broken x) vs w s = refl
 serial-turned (serialIs.Strange x) vs w s = refl
 serial-turned (serialIs.Understood x o) vs w s = refl
 
-serial-told : (room : ℕ) (m : List ℕ) (w : WRecord) → Six (serialReplies.told room m w .answer)
-unfolding serialReplies.told
-serial-told room m w = choose (λ (t : serialReplies.Turn). Six (t .answer)) (ltb room 512) _ _ (λ e. refl) (λ e. serial-turned (serial.heardOf m) (serial.valuesOf m) w (serial-heard m))
-
 -- ---- SDCP
 abbrev PacketMild : packetsHeard.Heard → Type 0
 PacketMild (packetsIs.Refused a) = Six a
@@ -102,10 +100,6 @@ packet-answer (packetsIs.Refused a) s = s
 packet-answer packetsIs.Broken s = refl
 packet-answer packetsIs.Strange s = refl
 packet-answer (packetsIs.Understood o) s = refl
-
-packet-told : (room : ℕ) (m : List ℕ) (w : WRecord) → Six (packetReplies.told room m w .answer)
-unfolding packetReplies.told
-packet-told room m w = choose (λ (t : packetReplies.Turn). Six (t .answer)) (ltb room 512) _ _ (λ e. refl) (λ e. subst Six (sym (turned-answer (packets.heardOf m) w)) (packet-answer (packets.heardOf m) (packet-heard m)))
 
 -- ---- KJW
 abbrev FrameMild : framesHeard.Heard → Type 0
@@ -153,18 +147,25 @@ frame-turned (framesIs.Refused a) k s = s
 frame-turned framesIs.Strange k s = refl
 frame-turned (framesIs.Understood o) k s = refl
 
-frame-met : (room : ℕ) (m : List ℕ) (k : KRecord) → Six (frames.met room m k .answer)
-unfolding frames.met frames.turned
-frame-met room m k = choose (λ (t : frames.Outcome). Six (t .answer)) (ltb room 512) _ _ (λ e. refl) (λ e. frame-turned (frames.heardOf m) k (frame-heard m))
+frame-six : (m : List ℕ) (k : KRecord) → Six (frames.turned m k .answer)
+unfolding frames.turned
+frame-six m k = frame-turned (frames.heardOf m) k (frame-heard m)
 
 -- ---- the box
 
+-- check 1 answers 1
+behind : {R : Type 0} (room : ℕ) (f : R → Turn R) (x : R) → Six (f x .answer) → Six (taken room f x .answer)
+behind {R} room f x = either (λ (t : Turn R). Six (t .answer)) room f x refl
+
+packet-six : (m : List ℕ) (w : WRecord) → Six (packetReplies.turnOf m w .answer)
+packet-six m w = subst Six (sym (turned-answer m (packets.heardOf m) w)) (packet-answer (packets.heardOf m) (packet-heard m))
+
 turn-six : (m : Message) (p : Panel) → Six (turn m p .answer)
 unfolding turn
-turn-six (rs232c l m area) p = serial-told (length area) m (p .w)
-turn-six (kjw l m area) p = frame-met (length area) m (p .k)
-turn-six (tcp l m area) p = packet-told (length area) m (p .w)
-turn-six (udp m) p = subst Six (sym (turned-answer (packets.heardOf m) (p .w))) (packet-answer (packets.heardOf m) (packet-heard m))
+turn-six (rs232c l m area) p = behind (length area) (serialReplies.turnOf m) (p .w) (serial-turned (serial.heardOf m) (serial.valuesOf m) (p .w) (serial-heard m))
+turn-six (kjw l m area) p = behind (length area) (frames.turned m) (p .k) (frame-six m (p .k))
+turn-six (tcp l m area) p = behind (length area) (packetReplies.turnOf m) (p .w) (packet-six m (p .w))
+turn-six (udp m) p = packet-six m (p .w)
 
 passed-six : (ns : List Name) (b : DisplayBox) (m : Message) → Six (answerTo ns b m)
 passed-six ns b (rs232c l m area) = turn-six (rs232c l m area) _

@@ -15,15 +15,16 @@ use Rattle.laws.proofs.Runs.{each-at, each-length}
 use Rattle.terms.specs.Answers.{numberOf}
 use Rattle.terms.specs.declared.Answer.{Answer}
 use Rattle.terms.specs.declared.Answer.the-variants.{AreaTooSmall, NoSuchPanel, WrongLength, NotForUs}
+use Rattle.turns.specs.Turns.{Turn}
 use Rattle.panels.specs.Records.{pastEnd}
 use Rattle.panels.specs.Valid.{valid}
 use Rattle.panels.specs.declared.Panel.{Panel}
 use Rattle.panels.specs.declared.DisplayBox.{DisplayBox}
-use Rattle.sdcp.specs.Packets.{heardOf}
+use Rattle.sdcp_asks.specs.Packets.{heardOf}
 use Rattle.sdcp.proofs.Told.{turned-answer}
 use Rattle.steps.specs.Messages.{Message, rs232c, kjw, tcp, udp, Name, nobody, names, onLink, isW}
 use Rattle.steps.specs.Addressing.{target, isCalled, addressed, anyCalled}
-use Rattle.steps.specs.Step.{toNobody, door, Turn, turn, nothing, back, Outcome, panelAt, ownTurn, answerTo, refused, step}
+use Rattle.steps.specs.Step.{toNobody, door, turn, nothing, back, Outcome, panelAt, ownTurn, answerTo, refused, step}
 use Rattle.steps.proofs.Sound.{sound}
 use Rattle.steps.proofs.Door.{no-link, nobody-shut, speaks, nobody-speaks, by-door}
 use Rattle.steps.proofs.Kept.{bad-names}
@@ -40,10 +41,10 @@ own-turn ns b m i e = ap (λ (j : ℕ). turn m (panelAt j b)) (own-place (target
 -- the answer given is that of each panel addressed
 pub own-answer : (ns : List Name) (b : DisplayBox) (m : Message) (i : ℕ) → addressed ns m i ≡ true → answerTo ns b m ≡ turn m (panelAt i b) .answer
 unfolding addressed turn
-own-answer ns b (rs232c l m area) i e = ap (λ (t : Turn). t .answer) (own-turn ns b (rs232c l m area) i e)
-own-answer ns b (kjw l m area) i e = ap (λ (t : Turn). t .answer) (own-turn ns b (kjw l m area) i e)
-own-answer ns b (tcp l m area) i e = ap (λ (t : Turn). t .answer) (own-turn ns b (tcp l m area) i e)
-own-answer ns b (udp m) i e = sym (turned-answer (heardOf m) (panelAt i b .w))
+own-answer ns b (rs232c l m area) i e = ap (λ (t : Turn Panel). t .answer) (own-turn ns b (rs232c l m area) i e)
+own-answer ns b (kjw l m area) i e = ap (λ (t : Turn Panel). t .answer) (own-turn ns b (kjw l m area) i e)
+own-answer ns b (tcp l m area) i e = ap (λ (t : Turn Panel). t .answer) (own-turn ns b (tcp l m area) i e)
+own-answer ns b (udp m) i e = sym (turned-answer m (heardOf m) (panelAt i b .w))
 
 -- panels that each stay where they are called all stay
 each-left : (called : ℕ → Bool) (f : Panel → Panel) (ps : List Panel) → ((i : ℕ) → called i ≡ true → f (getD ps i pastEnd) ≡ getD ps i pastEnd) → each called f ps ≡ ps
@@ -56,7 +57,7 @@ pub refused-leaves : (b : DisplayBox) (m : Message) → (numberOf (step b m .ans
 refused-leaves b m =
     by-door (λ (o : Outcome). (numberOf (o .answer) ≡ 0 → ⊥) → o .box ≡ b) b m
     (λ e z. ap (λ (ps : List Panel). record { count = b .count; panels = ps })
-    (each-left (addressed (names b) m) (λ (p : Panel). turn m p .panel) (b .panels)
+    (each-left (addressed (names b) m) (λ (p : Panel). turn m p .after) (b .panels)
     (λ i a. sound m (panelAt i b) .unmoved (λ q. z (ap numberOf (own-answer (names b) b m i a) ∙ q)))))
     (λ e z. refl)
 

@@ -3,10 +3,12 @@ use Prim.Native.Nat.{ℕ}
 use mathlib.Core.Path.{_≡_, refl, sym, ap, _∙_}
 use mathlib.Core.Bool.{Bool, true, false, not, _&&_, _||_}
 use mathlib.Core.List.{List, [], _∷_}
-use lib.Dec.{eqb, ltb}
+use lib.Dec.{eqb}
 use lib.ListN.{length, getD}
 use borrow.Author.Tests.{eqb-false, not-true}
-use Rattle.laws.proofs.Conditions.{choose, false-true, and-first, and-second}
+use Rattle.laws.proofs.Conditions.{false-true, and-first, and-second}
+use Rattle.turns.specs.Turns.{Turn, taken}
+use Rattle.turns.proofs.Turns.{either as behind}
 use Rattle.panels.specs.declared.Panel.{Panel}
 use Rattle.panels.specs.declared.WRecord.{WRecord}
 use Rattle.panels.specs.declared.DisplayBox.{DisplayBox}
@@ -19,10 +21,10 @@ use Rattle.kjw.specs.Frames.{valueOf}
 use Rattle.kjw.specs.Rules as frames
 use Rattle.kjw.specs.declared.State.{State}
 use Rattle.kjw.proofs.Stays as states
-use Rattle.sdcp.specs.Packets.{heardOf}
+use Rattle.sdcp_asks.specs.Packets.{heardOf}
 use Rattle.sdcp.specs.Replies as packets
-use Rattle.sdcp.specs.declared.Heard.{Heard}
-use Rattle.sdcp.specs.declared.Heard.the-variants.{Refused, Broken, Strange, Understood}
+use Rattle.sdcp_asks.specs.declared.Heard.{Heard}
+use Rattle.sdcp_asks.specs.declared.Heard.the-variants.{Refused, Broken, Strange, Understood}
 use Rattle.steps.specs.Messages.{Message, rs232c, kjw, tcp, udp, names}
 use Rattle.steps.specs.Addressing.{addressed}
 use Rattle.steps.specs.Step.{turn, panelAt, step}
@@ -66,60 +68,59 @@ record Left (h : Heard) (w w′ : WRecord) : Type 0 where
 unmoved : (h : Heard) (w : WRecord) → Left h w w
 unmoved h w = record { told-stays = λ j n. refl; inputs-stay = refl; balance-stays = refl }
 
-turned-left : (h : Heard) (w : WRecord) → Left h w (packets.turned h w .after)
+turned-left : (m : List ℕ) (h : Heard) (w : WRecord) → Left h w (packets.turned m h w .after)
 unfolding packets.turned
-turned-left (Refused a) w = unmoved (Refused a) w
-turned-left Broken w = unmoved Broken w
-turned-left Strange w = unmoved Strange w
-turned-left (Understood o) w =
+turned-left m (Refused a) w = unmoved (Refused a) w
+turned-left m Broken w = unmoved Broken w
+turned-left m Strange w = unmoved Strange w
+turned-left m (Understood o) w =
     let s = words.stays o w in
     record { told-stays = s .told-stays; inputs-stay = s .inputs-stay; balance-stays = s .balance-stays }
 
-packet-left : (room : ℕ) (m : List ℕ) (w : WRecord) → Left (heardOf m) w (packets.told room m w .after)
-unfolding packets.told
-packet-left room m w = choose (λ (t : packets.Turn). Left (heardOf m) w (t .after)) (ltb room 512) _ (packets.turned (heardOf m) w) (λ e. unmoved (heardOf m) w) (λ e. turned-left (heardOf m) w)
+packet-left : (room : ℕ) (m : List ℕ) (w : WRecord) → Left (heardOf m) w (taken room (packets.turnOf m) w .after)
+packet-left room m w = behind (λ (t : Turn WRecord). Left (heardOf m) w (t .after)) room (packets.turnOf m) w (unmoved (heardOf m) w) (turned-left m (heardOf m) w)
 
 -- STATget reads the settings and the shifts alone
 same-told : (j : ℕ) (w w′ : WRecord) → w′ .settings ≡ w .settings → w′ .shifts ≡ w .shifts → toldOf (Get j) w′ ≡ toldOf (Get j) w
 unfolding toldOf
 same-told j w w′ e f = rw (e, f)
 
-turn-told : (m : Message) (p : Panel) (j : ℕ) → sets m j ≡ false → toldOf (Get j) (turn m p .panel .w) ≡ toldOf (Get j) (p .w)
+turn-told : (m : Message) (p : Panel) (j : ℕ) → sets m j ≡ false → toldOf (Get j) (turn m p .after .w) ≡ toldOf (Get j) (p .w)
 unfolding turn
 turn-told (rs232c l m area) p j n =
     let s = serial.stays (length area) m (p .w) in
-    same-told j (p .w) (replies.told (length area) m (p .w) .after) (s .settings-stay) (s .shifts-stay)
+    same-told j (p .w) (taken (length area) (replies.turnOf m) (p .w) .after) (s .settings-stay) (s .shifts-stay)
 turn-told (kjw l m area) p j n = refl
 turn-told (tcp l m area) p j n = packet-left (length area) m (p .w) .told-stays j n
-turn-told (udp m) p j n = turned-left (heardOf m) (p .w) .told-stays j n
+turn-told (udp m) p j n = turned-left m (heardOf m) (p .w) .told-stays j n
 
 -- whatever the box, the message and the place: what STATget tells of name j stays, but for an order that sets it
 pub told-stays : (b : DisplayBox) (m : Message) (i j : ℕ) → sets m j ≡ false → toldOf (Get j) (panelAt i (step b m .box) .w) ≡ toldOf (Get j) (panelAt i b .w)
 told-stays b m i j n = either (λ (p : Panel). toldOf (Get j) (p .w) ≡ toldOf (Get j) (panelAt i b .w)) b m i refl (turn-told m (panelAt i b) j n)
 
-turn-inputs : (m : Message) (p : Panel) → bears 0x21 m ≡ false → bears 0x22 m ≡ false → turn m p .panel .w .inputs ≡ p .w .inputs
+turn-inputs : (m : Message) (p : Panel) → bears 0x21 m ≡ false → bears 0x22 m ≡ false → turn m p .after .w .inputs ≡ p .w .inputs
 unfolding turn
 turn-inputs (rs232c l m area) p n n′ = serial.stays (length area) m (p .w) .inputs-stay (eqb-false (getD m 4 0) 0x21 n) (eqb-false (getD m 4 0) 0x22 n′)
 turn-inputs (kjw l m area) p n n′ = refl
 turn-inputs (tcp l m area) p n n′ = packet-left (length area) m (p .w) .inputs-stay
-turn-inputs (udp m) p n n′ = turned-left (heardOf m) (p .w) .inputs-stay
+turn-inputs (udp m) p n n′ = turned-left m (heardOf m) (p .w) .inputs-stay
 
 -- the connectors and the preset stay, but for 21h and 22h
 pub inputs-stay : (b : DisplayBox) (m : Message) (i : ℕ) → bears 0x21 m ≡ false → bears 0x22 m ≡ false → panelAt i (step b m .box) .w .inputs ≡ panelAt i b .w .inputs
 inputs-stay b m i n n′ = either (λ (p : Panel). p .w .inputs ≡ panelAt i b .w .inputs) b m i refl (turn-inputs m (panelAt i b) n n′)
 
-turn-balance : (m : Message) (p : Panel) → bears 0x40 m ≡ false → turn m p .panel .w .balance ≡ p .w .balance
+turn-balance : (m : Message) (p : Panel) → bears 0x40 m ≡ false → turn m p .after .w .balance ≡ p .w .balance
 unfolding turn
 turn-balance (rs232c l m area) p n = serial.stays (length area) m (p .w) .balance-stays (eqb-false (getD m 4 0) 0x40 n)
 turn-balance (kjw l m area) p n = refl
 turn-balance (tcp l m area) p n = packet-left (length area) m (p .w) .balance-stays
-turn-balance (udp m) p n = turned-left (heardOf m) (p .w) .balance-stays
+turn-balance (udp m) p n = turned-left m (heardOf m) (p .w) .balance-stays
 
 -- the white balance stays, but for 40h
 pub balance-stays : (b : DisplayBox) (m : Message) (i : ℕ) → bears 0x40 m ≡ false → panelAt i (step b m .box) .w .balance ≡ panelAt i b .w .balance
 balance-stays b m i n = either (λ (p : Panel). p .w .balance ≡ panelAt i b .w .balance) b m i refl (turn-balance m (panelAt i b) n)
 
-turn-value : (m : Message) (p : Panel) (s : State) → setsState m s ≡ false → valueOf s (turn m p .panel .k) ≡ valueOf s (p .k)
+turn-value : (m : Message) (p : Panel) (s : State) → setsState m s ≡ false → valueOf s (turn m p .after .k) ≡ valueOf s (p .k)
 unfolding turn
 turn-value (rs232c l m area) p s n = refl
 turn-value (kjw l m area) p s n = states.stays (length area) m s (p .k) n

@@ -11,22 +11,21 @@ use Rattle.laws.specs.Runs.{each}
 use Rattle.laws.proofs.Conditions.{choose, false-true, passed as rung}
 use Rattle.laws.proofs.Runs.{each-at}
 use Rattle.terms.specs.Answers.{numberOf}
+use Rattle.terms.proofs.Answers.{number-tells}
 use Rattle.terms.specs.declared.Answer.{Answer}
-use Rattle.terms.specs.declared.Answer.the-variants.{Done, AreaTooSmall, NoSuchPanel, WrongLength, NotForUs, EnvelopeWrong, NotUnderstood, BadConfiguration}
+use Rattle.terms.specs.declared.Answer.the-variants.{Done, AreaTooSmall, NoSuchPanel}
 use Rattle.terms.specs.declared.GroupId.{GroupId}
 use Rattle.terms.specs.declared.UnitId.{UnitId}
+use Rattle.turns.specs.Turns.{Turn}
 use Rattle.panels.specs.Records.{pastEnd}
 use Rattle.panels.specs.Valid.{inUse, valid}
 use Rattle.panels.specs.declared.Panel.{Panel}
-use Rattle.panels.specs.declared.WRecord.{WRecord}
 use Rattle.panels.specs.declared.DisplayBox.{DisplayBox}
-use Rattle.sdcp.specs.Packets.{heardOf, groupOf, unitOf}
-use Rattle.sdcp.specs.Replies as packets
-use Rattle.sdcp.specs.declared.Heard.{Heard}
-use Rattle.sdcp.specs.declared.Heard.the-variants.{Refused, Broken, Strange, Understood}
+use Rattle.sdcp_asks.specs.Packets.{heardOf, groupOf, unitOf}
+use Rattle.sdcp.proofs.Told.{turned-answer}
 use Rattle.steps.specs.Messages.{Message, rs232c, kjw, tcp, udp, Name, nobody, nameOf, names, onLink, isW, isK}
 use Rattle.steps.specs.Addressing.{hasIds, isId, isPair, pairNumber, byTcp, target, isCalled, addressed}
-use Rattle.steps.specs.Step.{lent, door, Turn, turn, backOn, back, Outcome, panelAt, ownTurn, answerTo, passed, refused, through, step}
+use Rattle.steps.specs.Step.{lent, door, turn, backOn, back, Outcome, panelAt, ownTurn, answerTo, passed, refused, through, step}
 
 -- a message comes to the panel at place i: it passes the checks before the panels, and is addressed to that place
 pub record Reaches (b : DisplayBox) (m : Message) (i : ℕ) : Type 0 where
@@ -35,7 +34,7 @@ pub record Reaches (b : DisplayBox) (m : Message) (i : ℕ) : Type 0 where
 
 -- what the panel at place i then does, and what goes back for it
 pub record Taken (b : DisplayBox) (m : Message) (i : ℕ) : Type 0 where
-  pub panel-is : panelAt i (step b m .box) ≡ turn m (panelAt i b) .panel
+  pub panel-is : panelAt i (step b m .box) ≡ turn m (panelAt i b) .after
   pub answer-is : step b m .answer ≡ turn m (panelAt i b) .answer
   pub back-is : step b m .back ≡ back m (turn m (panelAt i b) .reply)
 
@@ -125,19 +124,13 @@ reaches-inside {b} {m} {i} r =
 -- ---- the turn is taken
 
 -- an answer of 0 has passed the checks before the panels
-done-passes : (b : DisplayBox) (m : Message) → step b m .answer ≡ Done → door (names b) m ≡ Done
+pub done-passes : (b : DisplayBox) (m : Message) → step b m .answer ≡ Done → door (names b) m ≡ Done
 unfolding step
-done-passes b m = go (door (names b) m)
+done-passes b m e = number-tells (door (names b) m) Done (go (door (names b) m) (eqb (numberOf (door (names b) m)) 0) refl e)
   where
-    go : (a : Answer) → through (names b) b m a .answer ≡ Done → a ≡ Done
-    go Done e = refl
-    go AreaTooSmall e = e
-    go NoSuchPanel e = e
-    go WrongLength e = e
-    go NotForUs e = e
-    go EnvelopeWrong e = e
-    go NotUnderstood e = e
-    go BadConfiguration e = e
+    go : (a : Answer) (t : Bool) → eqb (numberOf a) 0 ≡ t → cond t (passed (names b) b m) (refused b m a) .answer ≡ Done → numberOf a ≡ 0
+    go a true q d = eqb-true (numberOf a) 0 q
+    go a false q d = ap numberOf d
 
 -- a message that is answered 0 comes to each panel that it is addressed to
 pub done-reaches : (b : DisplayBox) (m : Message) (i : ℕ) → step b m .answer ≡ Done → addressed (names b) m i ≡ true → Reaches b m i
@@ -148,28 +141,21 @@ pub again : {b c : DisplayBox} {m : Message} {i : ℕ} → names c ≡ names b �
 again {b} {c} {m} {i} e r = record { passes = ap (λ (ns : List Name). door ns m) e ∙ r .passes; meant = ap (λ (ns : List Name). addressed ns m i) e ∙ r .meant }
 
 -- by UDP all panels that are called have the same answer
-turned-answer : (h : Heard) (w : WRecord) → packets.answerOf h ≡ packets.turned h w .answer
-unfolding packets.turned
-turned-answer (Refused a) w = refl
-turned-answer Broken w = refl
-turned-answer Strange w = refl
-turned-answer (Understood o) w = refl
-
 own-turn : (ns : List Name) (b : DisplayBox) (m : Message) (i : ℕ) → eqb (target ns m) (suc i) ≡ true → ownTurn ns b m ≡ turn m (panelAt i b)
 own-turn ns b m i a = let e = eqb-true (target ns m) (suc i) a in ap (λ (j : ℕ). turn m (panelAt j b)) (omega arith)
 
 own-answer : (ns : List Name) (b : DisplayBox) (m : Message) (i : ℕ) → addressed ns m i ≡ true → answerTo ns b m ≡ turn m (panelAt i b) .answer
 unfolding addressed turn
-own-answer ns b (rs232c l m area) i a = ap (λ (t : Turn). t .answer) (own-turn ns b (rs232c l m area) i a)
-own-answer ns b (kjw l m area) i a = ap (λ (t : Turn). t .answer) (own-turn ns b (kjw l m area) i a)
-own-answer ns b (tcp l m area) i a = ap (λ (t : Turn). t .answer) (own-turn ns b (tcp l m area) i a)
-own-answer ns b (udp m) i a = turned-answer (heardOf m) (panelAt i b .w)
+own-answer ns b (rs232c l m area) i a = ap (λ (t : Turn Panel). t .answer) (own-turn ns b (rs232c l m area) i a)
+own-answer ns b (kjw l m area) i a = ap (λ (t : Turn Panel). t .answer) (own-turn ns b (kjw l m area) i a)
+own-answer ns b (tcp l m area) i a = ap (λ (t : Turn Panel). t .answer) (own-turn ns b (tcp l m area) i a)
+own-answer ns b (udp m) i a = sym (turned-answer m (heardOf m) (panelAt i b .w))
 
 own-back : (ns : List Name) (b : DisplayBox) (m : Message) (i : ℕ) → addressed ns m i ≡ true → back m (ownTurn ns b m .reply) ≡ back m (turn m (panelAt i b) .reply)
 unfolding addressed
-own-back ns b (rs232c l m area) i a = ap (λ (t : Turn). backOn area (t .reply)) (own-turn ns b (rs232c l m area) i a)
-own-back ns b (kjw l m area) i a = ap (λ (t : Turn). backOn area (t .reply)) (own-turn ns b (kjw l m area) i a)
-own-back ns b (tcp l m area) i a = ap (λ (t : Turn). backOn area (t .reply)) (own-turn ns b (tcp l m area) i a)
+own-back ns b (rs232c l m area) i a = ap (λ (t : Turn Panel). backOn area (t .reply)) (own-turn ns b (rs232c l m area) i a)
+own-back ns b (kjw l m area) i a = ap (λ (t : Turn Panel). backOn area (t .reply)) (own-turn ns b (kjw l m area) i a)
+own-back ns b (tcp l m area) i a = ap (λ (t : Turn Panel). backOn area (t .reply)) (own-turn ns b (tcp l m area) i a)
 own-back ns b (udp m) i a = refl
 
 step-passed : (b : DisplayBox) (m : Message) → door (names b) m ≡ Done → step b m ≡ passed (names b) b m
@@ -181,8 +167,8 @@ pub takes : {b : DisplayBox} {m : Message} {i : ℕ} → Reaches b m i → Taken
 takes {b} {m} {i} r = record {
   panel-is =
       ap (λ (o : Outcome). panelAt i (o .box)) e
-      ∙ each-at (addressed (names b) m) (λ (p : Panel). turn m p .panel) (b .panels) i pastEnd (reaches-inside r)
-      ∙ ap (λ (c : Bool). cond c (turn m (panelAt i b) .panel) (panelAt i b)) (r .meant);
+      ∙ each-at (addressed (names b) m) (λ (p : Panel). turn m p .after) (b .panels) i pastEnd (reaches-inside r)
+      ∙ ap (λ (c : Bool). cond c (turn m (panelAt i b) .after) (panelAt i b)) (r .meant);
   answer-is = ap (λ (o : Outcome). o .answer) e ∙ own-answer (names b) b m i (r .meant);
   back-is = ap (λ (o : Outcome). o .back) e ∙ own-back (names b) b m i (r .meant);
 }
@@ -199,11 +185,11 @@ module _ (P : Panel → Type 0) where
   each-either called f (x ∷ l) (suc i) d p q = each-either (λ (j : ℕ). called (suc j)) f l i d p q
 
   -- what holds of a panel and of its turn holds of it after any step
-  pub either : (b : DisplayBox) (m : Message) (i : ℕ) → P (panelAt i b) → P (turn m (panelAt i b) .panel) → P (panelAt i (step b m .box))
+  pub either : (b : DisplayBox) (m : Message) (i : ℕ) → P (panelAt i b) → P (turn m (panelAt i b) .after) → P (panelAt i (step b m .box))
   unfolding step
   either b m i p q =
       choose (λ (o : Outcome). P (panelAt i (o .box))) (eqb (numberOf (door (names b) m)) 0) (passed (names b) b m) (refused b m (door (names b) m))
-      (λ e. each-either (addressed (names b) m) (λ (x : Panel). turn m x .panel) (b .panels) i pastEnd p q) (λ e. p)
+      (λ e. each-either (addressed (names b) m) (λ (x : Panel). turn m x .after) (b .panels) i pastEnd p q) (λ e. p)
 
 each-left : (called : ℕ → Bool) (f : Panel → Panel) (l : List Panel) (i : ℕ) (d : Panel) → called i ≡ false → getD (each called f l) i d ≡ getD l i d
 each-left called f [] i d n = refl
@@ -215,4 +201,4 @@ pub left : (b : DisplayBox) (m : Message) (i : ℕ) → addressed (names b) m i 
 unfolding step
 left b m i n =
     choose (λ (o : Outcome). panelAt i (o .box) ≡ panelAt i b) (eqb (numberOf (door (names b) m)) 0) (passed (names b) b m) (refused b m (door (names b) m))
-    (λ e. each-left (addressed (names b) m) (λ (x : Panel). turn m x .panel) (b .panels) i pastEnd n) (λ e. refl)
+    (λ e. each-left (addressed (names b) m) (λ (x : Panel). turn m x .after) (b .panels) i pastEnd n) (λ e. refl)

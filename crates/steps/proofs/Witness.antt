@@ -13,6 +13,7 @@ use Rattle.sums.specs.Sums.{sumOf}
 use Rattle.terms.specs.declared.Answer.the-variants.{Done}
 use Rattle.numbers.specs.Decimals as decimals
 use Rattle.words.specs.Names as words
+use Rattle.turns.specs.Turns.{taken}
 use Rattle.panels.specs.Records.{familyW, familyK}
 use Rattle.panels.specs.Valid as rules
 use Rattle.panels.specs.Configure.{askedAt, asked, configured}
@@ -25,12 +26,12 @@ use Rattle.rs232c.specs.Orders as serialOrders
 use Rattle.rs232c.specs.Replies as serial
 use Rattle.kjw.specs.Frames as frameForms
 use Rattle.kjw.specs.Rules as frames
-use Rattle.sdcp.specs.Packets as packetForms
+use Rattle.sdcp_asks.specs.Packets as packetForms
 use Rattle.sdcp.specs.Replies as packets
 use Rattle.steps.specs.Messages.{Message, rs232c, kjw, tcp, udp, nameOf, names}
 use Rattle.steps.specs.Addressing.{hasIds, isPair, pairNumber, byTcp, target, isCalled, addressed}
-use Rattle.steps.specs.Step.{door, turn, backOn, nothing, panelAt, step}
-use Rattle.steps.specs.Run.{run, kept, replies}
+use Rattle.steps.specs.Step.{door, turn, Back, backOn, nothing, panelAt, step}
+use Rattle.steps.specs.Run.{Got, run, kept, replies}
 use Rattle.steps.proofs.Alone.{demand-3-configured}
 
 -- W 1/1, W 1/2, K, W 2/1, W 2/2, K, W 3/1, W 1/3
@@ -75,6 +76,9 @@ told-40 = packetForms.front ++ (1 ∷ 2 ∷ 0x01 ∷ 0xb0 ∷ 0x00 ∷ 0x00 ∷ 
 abbrev told-off : List ℕ
 told-off = 0x02 ∷ 0x04 ∷ 0x41 ∷ 0x01 ∷ 0x7e ∷ 0x00 ∷ 0x3c ∷ []
 
+abbrev done : Back → Got
+done x = record { answer = Done; back = x }
+
 pub accepted : configured eight .answer ≡ Done
 unfolding configured asked askedAt rules.valid rules.okPanel rules.okIds rules.zeroIds rules.okW rules.okK rules.okInput rules.okInputs rules.okBalance rules.okGain rules.okBias rules.okShift rules.share rules.distinct
 accepted = refl
@@ -92,13 +96,13 @@ abbrev volume : ℕ → DisplayBox → ℕ
 volume i b = getD (panelAt i b .w .settings) 2 0
 
 -- panel 1's volume at the two ends, and what panel 2 heard: nothing by UDP, "VOLUME 40", and REMOTE OFF
-ends : (volume 0 (run start one) ≡ 99) × (volume 0 (run start two) ≡ 40) × (replies 1 start one ≡ nothing ∷ backOn room told-40 ∷ nothing ∷ backOn room told-off ∷ [])
-unfolding configured asked askedAt rules.valid rules.okPanel rules.okIds rules.zeroIds rules.okW rules.okK rules.okInput rules.okInputs rules.okBalance rules.okGain rules.okBias rules.okShift rules.share rules.distinct nameOf names packetForms.isOurs hasIds isPair pairNumber byTcp target isCalled addressed door turn step packets.told packets.turned packets.bytesOf packets.packetOf packetForms.heardOf packetForms.isBroken number inBytes orders.carried orders.toldOf reading.readData reading.readSet reading.readGet reading.valueOrder decimals.upTo decimals.isNumeral decimals.leadsZero texts.textOf texts.setWords texts.valueWords decimals.isDigit decimals.decimal decimals.inDigits decimals.numeral words.namedBy words.ledBy words.chosenBy frameForms.lettersOf frameForms.nameOf frames.met frames.turned frames.turnOf frames.heardOf frames.isOurs frames.controlOf frames.upTo frames.switchOf frames.carried serial.told serial.turned serial.replyTo serial.bytesOf serial.frameOf serialForms.heardOf serialForms.isForeign serialForms.isBroken serialForms.commandOf serialOrders.carried sumOf
+ends : (volume 0 (run start one) ≡ 99) × (volume 0 (run start two) ≡ 40) × (replies 1 start one ≡ done nothing ∷ done (backOn room told-40) ∷ done nothing ∷ done (backOn room told-off) ∷ [])
+unfolding configured asked askedAt rules.valid rules.okPanel rules.okIds rules.zeroIds rules.okW rules.okK rules.okInput rules.okInputs rules.okBalance rules.okGain rules.okBias rules.okShift rules.share rules.distinct nameOf names packetForms.isOurs hasIds isPair pairNumber byTcp target isCalled addressed door turn step taken packets.turned packets.bytesOf packets.packetOf packetForms.heardOf packetForms.isBroken number inBytes orders.carried orders.toldOf reading.readData reading.readSet reading.readGet reading.valueOrder decimals.upTo decimals.isNumeral decimals.leadsZero texts.textOf texts.setWords texts.valueWords decimals.isDigit decimals.decimal decimals.inDigits decimals.numeral words.namedBy words.ledBy words.chosenBy frameForms.lettersOf frameForms.nameOf frames.turned frames.turnOf frames.heardOf frames.isOurs frames.controlOf frames.upTo frames.switchOf frames.carried serial.turned serial.replyTo serial.bytesOf serial.frameOf serialForms.heardOf serialForms.isForeign serialForms.isBroken serialForms.commandOf serialOrders.carried sumOf
 ends = (refl, refl, refl)
 
 pub differ : run start one ≡ run start two → ⊥
 differ e = let q : _≡_ {A = ℕ} 99 40 = sym (ends .0) ∙ ap (volume 0) e ∙ ends .1 in omega arith
 
 -- the second run's replies to panel 2's messages are then the same, by demand 3
-pub heard-alike : replies 1 start two ≡ nothing ∷ backOn room told-40 ∷ nothing ∷ backOn room told-off ∷ []
+pub heard-alike : replies 1 start two ≡ done nothing ∷ done (backOn room told-40) ∷ done nothing ∷ done (backOn room told-off) ∷ []
 heard-alike = sym (demand-3-configured eight 1 one two (lit< tt) kept-alike .1) ∙ ends .2

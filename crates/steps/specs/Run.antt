@@ -5,7 +5,16 @@ use Rattle.laws.specs.Runs.{runBy, keptBy, heardBy}
 use Rattle.panels.specs.declared.DisplayBox.{DisplayBox}
 use Rattle.steps.specs.Messages.{Message, Name, names}
 use Rattle.steps.specs.Addressing.{addressed}
+use Rattle.terms.specs.declared.Answer.{Answer}
 use Rattle.steps.specs.Step.{Back, step}
+
+-- what a message got: the answer, and what went back
+pub record Got : Type 0 where
+  pub answer : Answer
+  pub back : Back
+
+abbrev pub gotBy : DisplayBox → Message → Got
+gotBy b m = record { answer = step b m .answer; back = step b m .back }
 
 abbrev pub after : DisplayBox → Message → DisplayBox
 after b m = step b m .box
@@ -14,10 +23,14 @@ after b m = step b m .box
 abbrev pub run : DisplayBox → List Message → DisplayBox
 run b ms = runBy after b ms
 
+-- whom messages address after one: the same
+abbrev pub next : List Name → Message → List Name
+next ns m = ns
+
 -- those of the messages that are addressed to the panel at place i
 abbrev pub kept : ℕ → List Name → List Message → List Message
-kept i ns ms = keptBy (λ (n : List Name) (m : Message). n) (λ (n : List Name) (m : Message). addressed n m i) ns ms
+kept i ns ms = keptBy next (λ (n : List Name) (m : Message). addressed n m i) ns ms
 
--- what went back for each of them: length and whole area
-abbrev pub replies : ℕ → DisplayBox → List Message → List Back
-replies i b ms = heardBy after (λ (c : DisplayBox) (m : Message). addressed (names c) m i) (λ (c : DisplayBox) (m : Message). step c m .back) b ms
+-- what each of them got: answer, length and whole area
+abbrev pub replies : ℕ → DisplayBox → List Message → List Got
+replies i b ms = heardBy after (λ (c : DisplayBox) (m : Message). addressed (names c) m i) gotBy b ms

@@ -9,6 +9,7 @@ use Rattle.laws.specs.Runs.{each}
 use Rattle.terms.specs.Answers.{numberOf}
 use Rattle.terms.specs.declared.Answer.{Answer}
 use Rattle.terms.specs.declared.Answer.the-variants.{Done, AreaTooSmall, NoSuchPanel, WrongLength, NotForUs}
+use Rattle.turns.specs.Turns.{Turn, taken, within}
 use Rattle.panels.specs.Records.{pastEnd}
 use Rattle.panels.specs.declared.Panel.{Panel}
 use Rattle.panels.specs.declared.WRecord.{WRecord}
@@ -16,7 +17,7 @@ use Rattle.panels.specs.declared.KRecord.{KRecord}
 use Rattle.panels.specs.declared.DisplayBox.{DisplayBox}
 use Rattle.rs232c.specs.Replies as serial
 use Rattle.kjw.specs.Rules as frames
-use Rattle.sdcp.specs.Packets.{heardOf}
+use Rattle.sdcp_asks.specs.Packets.{heardOf}
 use Rattle.sdcp.specs.Replies as packets
 use Rattle.steps.specs.Messages.{Message, rs232c, kjw, tcp, udp, Name, names, onLink, isW, isK}
 use Rattle.steps.specs.Addressing.{target, addressed, anyCalled}
@@ -48,25 +49,11 @@ door ns (udp m) = cond (anyCalled m ns) Done (toNobody m)
 
 -- ---- what a panel does with a message that is addressed to it: it sees its own record alone
 
-pub record Turn : Type 0 where
-  pub panel : Panel
-  pub answer : Answer
-  pub reply : List ℕ
-
-abbrev pub serialTurn : Panel → serial.Turn → Turn
-serialTurn p t = record { panel = withW p (t .after); answer = t .answer; reply = serial.bytesOf (t .reply) }
-
-abbrev pub frameTurn : Panel → frames.Outcome → Turn
-frameTurn p t = record { panel = withK p (t .k); answer = t .answer; reply = t .reply }
-
-abbrev pub packetTurn : List ℕ → Panel → packets.Turn → Turn
-packetTurn m p t = record { panel = withW p (t .after); answer = t .answer; reply = packets.bytesOf m (t .reply) }
-
-unfoldable pub turn : Message → Panel → Turn
-turn (rs232c l m area) p = serialTurn p (serial.told (length area) m (p .w))
-turn (kjw l m area) p = frameTurn p (frames.met (length area) m (p .k))
-turn (tcp l m area) p = packetTurn m p (packets.told (length area) m (p .w))
-turn (udp m) p = packetTurn m p (packets.turned (heardOf m) (p .w))
+unfoldable pub turn : Message → Panel → Turn Panel
+turn (rs232c l m area) p = within (withW p) (taken (length area) (serial.turnOf m) (p .w))
+turn (kjw l m area) p = within (withK p) (taken (length area) (frames.turned m) (p .k))
+turn (tcp l m area) p = within (withW p) (taken (length area) (packets.turnOf m) (p .w))
+turn (udp m) p = within (withW p) (packets.turnOf m (p .w))
 
 -- ---- the step
 
@@ -96,7 +83,7 @@ abbrev pub panelAt : ℕ → DisplayBox → Panel
 panelAt i b = getD (b .panels) i pastEnd
 
 -- the turn of the one panel that a message with a link addresses
-abbrev pub ownTurn : List Name → DisplayBox → Message → Turn
+abbrev pub ownTurn : List Name → DisplayBox → Message → Turn Panel
 ownTurn ns b m = turn m (panelAt (target ns m - 1) b)
 
 -- by UDP the answer is that of what was heard, which is the same for every panel that is called
@@ -108,7 +95,7 @@ answerTo ns b (udp m) = packets.answerOf (heardOf m)
 
 abbrev pub passed : List Name → DisplayBox → Message → Outcome
 passed ns b m = record {
-  box = withPanels b (each (addressed ns m) (λ (p : Panel). turn m p .panel) (b .panels));
+  box = withPanels b (each (addressed ns m) (λ (p : Panel). turn m p .after) (b .panels));
   answer = answerTo ns b m;
   back = back m (ownTurn ns b m .reply);
 }

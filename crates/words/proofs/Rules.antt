@@ -13,15 +13,7 @@ use Rattle.laws.proofs.Conditions.{false-true, and-first, and-second}
 use Rattle.laws.proofs.Lists.{same-is}
 use Rattle.laws.proofs.Table.{below, sure}
 use Rattle.words.specs.Names.{names, leads, nameOf, leadOf, wordsOf, wordOf}
-use Rattle.words.specs.Rows.{values, textOf, bareOf, meets}
-
--- the texts in rows of 13 places, as the code holds them
-abbrev pub laid : List (List ℕ) → List ℕ
-laid [] = []
-laid (t ∷ ts) = t ++ (replicate (13 - length t) 95 ++ laid ts)
-
-abbrev pub rows : List ℕ
-rows = laid (leads ++ values)
+use Rattle.words.specs.Rows.{values, textOf, bareOf, rows, initials, meets}
 
 short : ℕ → Bool
 short row = leb (length (textOf row)) 13
@@ -76,8 +68,6 @@ unfolding bareFits
 bare-fits row h = leb→le _ _ (below 32 bareFits tt row h)
 
 -- the first byte of a row's text, and of its bare text: no text is empty
-abbrev pub initials : List ℕ
-initials = map (λ (t : List ℕ). getD t 0 0) (leads ++ values)
 
 initialRight : ℕ → Bool
 initialRight row = begins (getD initials row 0 ∷ []) (textOf row) && begins (getD initials row 0 ∷ []) (bareOf row)

@@ -4,10 +4,10 @@ use octets::byte_at;
 use octets::lay;
 ghost use mathlib.Core.Path.{_≡_};
 ghost use Prim.Native.Nat.{ℕ, _+_, _*_, _<_, _≤_};
-ghost use lib.ListN.{length, take};
+ghost use lib.ListN.{length, take, getD};
 ghost use Rattle.laws.specs.Bytes.{begins, laid};
 ghost use Rattle.words.specs.Names.{leadOf, wordsOf, wordOf, firstOf, namedBy, ledBy, chosenBy};
-ghost use Rattle.words.specs.Rows.{textOf, bareOf, meets};
+ghost use Rattle.words.specs.Rows.{textOf, bareOf, rows, initials, meets};
 
 // A place in a table, or none.
 pub enum Found {
@@ -179,11 +179,10 @@ const COUNT: [usize; 23] = [
 ];
 
 // The first n bytes of a row's text begin s.
-fn row_begins(s: &[u8], row: usize, n: usize) -> bool
-    requires { ⌜ (row < 32) × (n ≤ length (textOf row)) ⌝ }
+fn row_begins(s: &[u8], texts: &[u8; 416], row: usize, n: usize) -> bool
+    requires { ⌜ (now texts ≡ rows) × ((row < 32) × (n ≤ length (textOf row))) ⌝ }
     ensures { λ r. ⌜ r ≡ begins (take n (textOf row)) (now (s .entry)) ⌝ }
 {
-    let texts = &TEXTS;
     let mut j = 0;
     while j < n {
         if s.len() <= j {
@@ -198,8 +197,8 @@ fn row_begins(s: &[u8], row: usize, n: usize) -> bool
 }
 
 // s is the bare text of a row, or begins with its whole text.
-fn row_agrees(s: &[u8], row: usize, bare: bool) -> bool
-    requires { ⌜ row < 32 ⌝ }
+fn row_agrees(s: &[u8], texts: &[u8; 416], row: usize, bare: bool) -> bool
+    requires { ⌜ (now texts ≡ rows) × (row < 32) ⌝ }
     ensures { λ r. ⌜ r ≡ meets bare row (now (s .entry)) ⌝ }
 {
     if bare {
@@ -207,21 +206,28 @@ fn row_agrees(s: &[u8], row: usize, bare: bool) -> bool
         if s.len() != n {
             return false;
         }
-        return row_begins(s, row, n);
+        return row_begins(s, texts, row, n);
     }
     let n = LENGTHS[row];
-    row_begins(s, row, n)
+    row_begins(s, texts, row, n)
 }
 
 // The same, after a look at the first byte.
-fn row_meets(s: &[u8], row: usize, bare: bool) -> bool
-    requires { ⌜ row < 32 ⌝ }
+fn row_meets(
+    s: &[u8],
+    front: u8,
+    firsts: &[u8; 32],
+    texts: &[u8; 416],
+    row: usize,
+    bare: bool,
+) -> bool
+    requires { ⌜ (front ≡ getD (now s) 0 0) × ((now firsts ≡ initials) × ((now texts ≡ rows) × (row < 32))) ⌝ }
     ensures { λ r. ⌜ r ≡ meets bare row (now (s .entry)) ⌝ }
 {
-    if byte_at(s, 0) != INITIALS[row] {
+    if front != firsts[row] {
         return false;
     }
-    row_agrees(s, row, bare)
+    row_agrees(s, texts, row, bare)
 }
 
 // The first of n rows that s meets, counted from the first of them.
@@ -229,9 +235,12 @@ fn find(s: &[u8], first: usize, n: usize, bare: bool) -> Found
     requires { ⌜ first + n ≤ 32 ⌝ }
     ensures { λ r. ⌜ r ≡ firstOf n 0 (λ (i : ℕ). meets bare (first + i) (now (s .entry))) ⌝ }
 {
+    let front = byte_at(s, 0);
+    let firsts = INITIALS;
+    let texts = TEXTS;
     let mut i = 0;
     while i < n {
-        if row_meets(s, first + i, bare) {
+        if row_meets(s, front, &firsts, &texts, first + i, bare) {
             return Found::At(i);
         }
         i += 1;

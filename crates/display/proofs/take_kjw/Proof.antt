@@ -14,8 +14,8 @@ use Rattle.steps.specs.Messages.{kjw, names, onLink, isK}
 use Rattle.steps.specs.Addressing.{target}
 use Rattle.steps.proofs.Refused.{by-kjw, too-small, no-such-panel}
 use Rattle.panels.specs.declared.KRecord.{KRecord}
-use Rattle.kjw.specs.Rules.{Answered}
-use Rattle.kjw.specs.declared.Taken.{Taken}
+use Rattle.turns.specs.Turns.{Takes}
+use Rattle.kjw.specs.Rules.{turned}
 use Rattle.panels.specs.Records.{familyK}
 use Rattle.display.proofs.take_kjw.Statement.{statement}
 use Rattle.display.proofs.take_kjw.Tie as tie
@@ -65,9 +65,9 @@ returns-3 c =
     let z = p .eight in
     let l : length (a .b .panels) ≡ 8 = c .before .before .before .before .before .before .before .before .is-on .ensures .1 in
     let q : isK (onLink (names (a .b)) (a .link)) ≡ true = sym (on-k (a .b) (a .link) l) ∙ sym (c .before .before .before .before .before .before .before .before .is-on .ensures .0) ∙ not-false (c .before .before .before .before .before .before .before .before .is-on .result) (c .before .before .before .before .before .before .before .if2 .left) in
-    let t = subst (λ (r : KRecord). Answered r (a .m .now) (a .area .now) (c .before .before .before .before .take-frame .result) (c .before .before .before .before .take-frame .last .1 .1 .0)) (c .before .before .before .before .before .before .k-at .ensures) (c .before .before .before .before .take-frame .ensures) in
+    let t = subst (λ (r : KRecord). Takes (turned (a .m .now)) r (a .area .now) (c .before .before .before .before .take-frame .result .k) (c .before .before .before .before .take-frame .result .answer) (c .before .before .before .before .take-frame .result .len) (c .before .before .before .before .take-frame .last .1 .1 .0)) (c .before .before .before .before .before .before .k-at .ensures) (c .before .before .before .before .take-frame .ensures) in
     steps (a .b) (kjw (a .link) (a .m .now) (a .area .now)) _ _ _ (one-turn (a .b) (kjw (a .link) (a .m .now) (a .area .now)) (a .link) tt (rw (le-ltb (length (a .area .now)) 512 (c .before .before .before .before .before .before .before .before .before .if1 .left), q)) refl x (omega (arith, y, z, l)))
-    (c .with-k .ensures ∙ ap (λ (r : KRecord). withPanels (a .b) (set (a .b .panels) (a .link - 1) (withK (panelAt (a .link - 1) (a .b)) r))) (ap (λ (x : Taken). x .k) (t .given))) (ap (λ (x : Taken). x .answer) (t .given)) (ap (λ (x : Taken). x .len) (t .given)) (t .area-after)
+    (c .with-k .ensures ∙ ap (λ (r : KRecord). withPanels (a .b) (set (a .b .panels) (a .link - 1) (withK (panelAt (a .link - 1) (a .b)) r))) (t .record-after)) (t .answer-given) (t .sends .length-is) (t .sends .area-is)
 
 pub take-kjw-spec : {M : Type 1} → statement M
 take-kjw-spec =

@@ -14,7 +14,8 @@ use Rattle.steps.specs.Messages.{rs232c, names, onLink, isW}
 use Rattle.steps.specs.Addressing.{target}
 use Rattle.steps.proofs.Refused.{by-rs232c, too-small, no-such-panel}
 use Rattle.panels.specs.declared.WRecord.{WRecord}
-use Rattle.rs232c.specs.Replies.{Takes}
+use Rattle.turns.specs.Turns.{Takes}
+use Rattle.rs232c.specs.Replies.{turnOf}
 use Rattle.panels.specs.Records.{familyW}
 use Rattle.display.proofs.take_rs232c.Statement.{statement}
 use Rattle.display.proofs.take_rs232c.Tie as tie
@@ -64,7 +65,7 @@ returns-3 c =
     let z = p .eight in
     let l : length (a .b .panels) ≡ 8 = c .before .before .before .before .before .before .before .before .is-on .ensures .1 in
     let q : isW (onLink (names (a .b)) (a .link)) ≡ true = sym (on-w (a .b) (a .link) l) ∙ sym (c .before .before .before .before .before .before .before .before .is-on .ensures .0) ∙ not-false (c .before .before .before .before .before .before .before .before .is-on .result) (c .before .before .before .before .before .before .before .if2 .left) in
-    let t = subst (λ (r : WRecord). Takes (a .m .now) r (a .area .now) (c .before .before .before .before .take-frame .result) (c .before .before .before .before .take-frame .last .1 .1 .0)) (c .before .before .before .before .before .before .w-at .ensures) (c .before .before .before .before .take-frame .ensures) in
+    let t = subst (λ (r : WRecord). Takes (turnOf (a .m .now)) r (a .area .now) (c .before .before .before .before .take-frame .result .w) (c .before .before .before .before .take-frame .result .answer) (c .before .before .before .before .take-frame .result .len) (c .before .before .before .before .take-frame .last .1 .1 .0)) (c .before .before .before .before .before .before .w-at .ensures) (c .before .before .before .before .take-frame .ensures) in
     steps (a .b) (rs232c (a .link) (a .m .now) (a .area .now)) _ _ _ (one-turn (a .b) (rs232c (a .link) (a .m .now) (a .area .now)) (a .link) tt (rw (le-ltb (length (a .area .now)) 512 (c .before .before .before .before .before .before .before .before .before .if1 .left), q)) refl x (omega (arith, y, z, l)))
     (c .with-w .ensures ∙ ap (λ (r : WRecord). withPanels (a .b) (set (a .b .panels) (a .link - 1) (withW (panelAt (a .link - 1) (a .b)) r))) (t .record-after)) (t .answer-given) (t .sends .length-is) (t .sends .area-is)
 

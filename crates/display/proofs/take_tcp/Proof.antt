@@ -9,7 +9,8 @@ use native.Mathlib.Omega.{arith}
 use Rattle.terms.specs.declared.Answer.the-variants.{AreaTooSmall, NoSuchPanel}
 use Rattle.panels.specs.Records.{familyW}
 use Rattle.panels.specs.declared.WRecord.{WRecord}
-use Rattle.sdcp.specs.Replies.{Takes}
+use Rattle.turns.specs.Turns.{Takes}
+use Rattle.sdcp.specs.Replies.{turnOf}
 use Rattle.steps.specs.Messages.{tcp, names, onLink, isW}
 use Rattle.steps.specs.Addressing.{byTcp, target}
 use Rattle.steps.specs.Step.{withW, withPanels, panelAt, toNobody, door, turn, refused, step}
@@ -97,7 +98,7 @@ returns-4 c =
     let one : 1 ≤ n = omega (arith, c .before .before .before .before .before .before .before .if3 .left) in
     let some : byTcp (names (a .b)) (a .link) (a .m .now) ≡ 0 → ⊥ = λ e. c .before .before .before .before .before .before .before .if3 .left (c .before .before .before .before .before .before .before .before .by-tcp .ensures ∙ e) in
     let q : isW (onLink (names (a .b)) (a .link)) ≡ true = sym (on-w (a .b) (a .link) l) ∙ sym (c .before .before .before .before .before .before .before .before .before .before .is-on .ensures .0) ∙ not-false (c .before .before .before .before .before .before .before .before .before .before .is-on .result) (c .before .before .before .before .before .before .before .before .before .if2 .left) in
-    let t = subst (λ (r : WRecord). Takes (a .m .now) r (a .area .now) (c .before .before .before .before .take-packet .result) (c .before .before .before .before .take-packet .last .1 .1 .0)) (c .before .before .before .before .before .before .w-at .ensures) (c .before .before .before .before .take-packet .ensures) in
+    let t = subst (λ (r : WRecord). Takes (turnOf (a .m .now)) r (a .area .now) (c .before .before .before .before .take-packet .result .w) (c .before .before .before .before .take-packet .result .answer) (c .before .before .before .before .take-packet .result .len) (c .before .before .before .before .take-packet .last .1 .1 .0)) (c .before .before .before .before .before .before .w-at .ensures) (c .before .before .before .before .take-packet .ensures) in
     steps (a .b) (tcp (a .link) (a .m .now) (a .area .now)) _ _ _ (one-turn (a .b) (tcp (a .link) (a .m .now) (a .area .now)) n tt (rw (le-ltb (length (a .area .now)) 512 (c .before .before .before .before .before .before .before .before .before .before .before .if1 .left), q, ne-eqb (byTcp (names (a .b)) (a .link) (a .m .now)) 0 some)) (sym (c .before .before .before .before .before .before .before .before .by-tcp .ensures)) one (omega (arith, h, l)))
     (c .with-w .ensures ∙ ap (λ (r : WRecord). withPanels (a .b) (set (a .b .panels) (n - 1) (withW (panelAt (n - 1) (a .b)) r))) (t .record-after)) (t .answer-given) (t .sends .length-is) (t .sends .area-is)
 

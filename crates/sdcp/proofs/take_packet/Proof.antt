@@ -1,42 +1,23 @@
 -- `take_packet` asks the area's size, then goes by what the packet asks; each case is the definition's.
-use Prim.Native.Nat.{ℕ, _<_, _≤_}
+use Prim.Native.Nat.{ℕ}
 use mathlib.Core.Path.{_≡_, refl, sym, ap, subst, _∙_}
 use mathlib.Core.List.{List}
-use lib.ListN.{length}
-use borrow.Author.Tests.{lt-ltb, le-ltb}
 use borrow.Author.Needs.{needs}
 use native.Mathlib.Omega.{arith}
 use Rattle.laws.specs.Bytes.{Sent}
-use Rattle.terms.specs.declared.Answer.the-variants.{AreaTooSmall}
+use Rattle.turns.proofs.Turns.{takes-small, takes-turn}
 use Rattle.panels.specs.declared.WRecord.{WRecord}
 use Rattle.vmc.specs.declared.Told.{Told}
-use Rattle.sdcp.specs.Packets.{heardOf}
-use Rattle.sdcp.specs.Replies.{bytesOf, Turn, turned, told, Takes}
-use Rattle.sdcp.specs.declared.Taken.{Taken}
-use Rattle.sdcp.specs.declared.Heard.{Heard}
-use Rattle.sdcp.specs.declared.Reply.the-variants.{Silent, Ok}
+use Rattle.sdcp_asks.specs.Packets.{heardOf}
+use Rattle.sdcp.specs.Replies.{bytesOf, turned, turnOf}
+use Rattle.sdcp_asks.specs.declared.Heard.{Heard}
+use Rattle.sdcp.specs.declared.Reply.the-variants.{Ok}
 use Rattle.sdcp.proofs.Packets.{Long, heard-long}
 use Rattle.sdcp.proofs.take_packet.Statement.{statement}
 use Rattle.sdcp.proofs.take_packet.Tie as tie
 
-takes : (m : List ℕ) (w : WRecord) (area area′ : List ℕ) (r : Taken) (t : Turn) → told (length area) m w ≡ t → r .w ≡ t .after → r .answer ≡ t .answer → Sent (bytesOf m (t .reply)) (r .len) area area′ → Takes m w area r area′
-takes m w area area′ r t e p q s = record {
-  record-after = p ∙ ap (λ (x : Turn). x .after) (sym e);
-  answer-given = q ∙ ap (λ (x : Turn). x .answer) (sym e);
-  sends = subst (λ (x : Turn). Sent (bytesOf m (x .reply)) (r .len) area area′) (sym e) s;
-}
-
-silence : (m area : List ℕ) → Sent (bytesOf m Silent) 0 area area
-unfolding bytesOf
-silence m area = record { length-is = refl; area-is = refl }
-
-too-small : (room : ℕ) (m : List ℕ) (w : WRecord) → room < 512 → told room m w ≡ record { after = w; answer = AreaTooSmall; reply = Silent }
-unfolding told
-too-small room m w h = rw (lt-ltb room 512 h)
-
-asked : (room : ℕ) (m : List ℕ) (w : WRecord) (a h : Heard) → 512 ≤ room → a ≡ heardOf m → a ≡ h → told room m w ≡ turned h w
-unfolding told
-asked room m w a h k e f = rw (le-ltb room 512 k, sym e ∙ f)
+asked : (m : List ℕ) (w : WRecord) (a h : Heard) → a ≡ heardOf m → a ≡ h → turnOf m w ≡ turned m h w
+asked m w a h e f = ap (λ (x : Heard). turned m x w) (sym e ∙ f)
 
 long : (m : List ℕ) (a h : Heard) → a ≡ heardOf m → a ≡ h → Long m h
 long m a h e f = subst (Long m) (sym e ∙ f) (heard-long m)
@@ -44,7 +25,7 @@ long m a h e f = subst (Long m) (sym e ∙ f) (heard-long m)
 returns : tie.Need-returns
 returns c =
     let a = c .before .before .before .args in
-    takes (a .m .now) (a .w) (a .area .now) (a .area .now) _ _ (too-small (length (a .area .now)) (a .m .now) (a .w) (c .if1 .taken)) refl refl (silence (a .m .now) (a .area .now))
+    takes-small (turnOf (a .m .now)) (a .w) (a .area .now) (c .if1 .taken)
 
 hear-requires : tie.Need-hear-requires
 hear-requires c κs = search needs
@@ -83,7 +64,7 @@ returns-2 : tie.Need-returns-2
 unfolding turned
 returns-2 c =
     let a = c .before .before .before .before .before .before .before .args in
-    takes (a .m .now) (a .w) (a .area .now) (a .area .now) _ _ (asked (length (a .area .now)) (a .m .now) (a .w) (c .before .before .before .hear .result) _ (c .before .before .before .before .if1 .left) (c .before .before .before .hear .ensures) (c .before .ask .given .1)) refl refl (silence (a .m .now) (a .area .now))
+    takes-turn (turnOf (a .m .now)) (a .w) (a .area .now) _ _ _ _ _ (c .before .before .before .before .if1 .left) (asked (a .m .now) (a .w) (c .before .before .before .hear .result) _ (c .before .before .before .hear .ensures) (c .before .ask .given .1)) refl refl (record { length-is = refl; area-is = refl })
 
 same-length : tie.Need-same-length
 same-length c = search needs
@@ -92,7 +73,7 @@ returns-3 : tie.Need-returns-3
 unfolding turned bytesOf
 returns-3 c =
     let a = c .before .before .before .before .before .before .before .before .before .before .before .args in
-    takes (a .m .now) (a .w) (a .area .now) _ _ _ (asked (length (a .area .now)) (a .m .now) (a .w) (c .before .before .before .before .before .before .before .hear .result) _ (c .before .before .before .before .before .before .before .before .if1 .left) (c .before .before .before .before .before .before .before .hear .ensures) (c .before .before .before .before .before .enum-told .given .1)) refl refl (c .before .before .put-packet .ensures)
+    takes-turn (turnOf (a .m .now)) (a .w) (a .area .now) _ _ _ _ _ (c .before .before .before .before .before .before .before .before .if1 .left) (asked (a .m .now) (a .w) (c .before .before .before .before .before .before .before .hear .result) _ (c .before .before .before .before .before .before .before .hear .ensures) (c .before .before .before .before .before .enum-told .given .1)) refl refl (c .before .before .put-packet .ensures)
 
 same-length-2 : tie.Need-same-length-2
 same-length-2 c = search needs
@@ -101,7 +82,7 @@ returns-4 : tie.Need-returns-4
 unfolding turned
 returns-4 c =
     let a = c .before .before .before .before .before .before .before .before .before .before .args in
-    takes (a .m .now) (a .w) (a .area .now) _ _ _ (asked (length (a .area .now)) (a .m .now) (a .w) (c .before .before .before .before .before .before .hear .result) _ (c .before .before .before .before .before .before .before .if1 .left) (c .before .before .before .before .before .before .hear .ensures) (c .before .before .before .before .enum-told2 .given .1)) refl refl (c .before .before .put-ok .ensures)
+    takes-turn (turnOf (a .m .now)) (a .w) (a .area .now) _ _ _ _ _ (c .before .before .before .before .before .before .before .if1 .left) (asked (a .m .now) (a .w) (c .before .before .before .before .before .before .hear .result) _ (c .before .before .before .before .before .before .hear .ensures) (c .before .before .before .before .enum-told2 .given .1)) refl refl (c .before .before .put-ok .ensures)
 
 same-length-3 : tie.Need-same-length-3
 same-length-3 c = search needs
@@ -110,7 +91,7 @@ returns-5 : tie.Need-returns-5
 unfolding turned
 returns-5 c =
     let a = c .before .before .before .before .before .before .before .before .before .before .before .before .before .args in
-    takes (a .m .now) (a .w) (a .area .now) _ _ _ (asked (length (a .area .now)) (a .m .now) (a .w) (c .before .before .before .before .before .before .before .before .before .hear .result) _ (c .before .before .before .before .before .before .before .before .before .before .if1 .left) (c .before .before .before .before .before .before .before .before .before .hear .ensures) (c .before .before .before .before .before .before .before .ask2 .given .1)) (c .before .before .before .before .before .obey .ensures) refl (subst (λ (t : Told). Sent (bytesOf (a .m .now) (Ok t)) (c .before .before .put-ok2 .result) (a .area .now) (c .before .before .put-ok2 .last .1 .1 .0)) (c .before .before .before .before .tell .ensures) (c .before .before .put-ok2 .ensures))
+    takes-turn (turnOf (a .m .now)) (a .w) (a .area .now) _ _ _ _ _ (c .before .before .before .before .before .before .before .before .before .before .if1 .left) (asked (a .m .now) (a .w) (c .before .before .before .before .before .before .before .before .before .hear .result) _ (c .before .before .before .before .before .before .before .before .before .hear .ensures) (c .before .before .before .before .before .before .before .ask2 .given .1)) (c .before .before .before .before .before .obey .ensures) refl (subst (λ (t : Told). Sent (bytesOf (a .m .now) (Ok t)) (c .before .before .put-ok2 .result) (a .area .now) (c .before .before .put-ok2 .last .1 .1 .0)) (c .before .before .before .before .tell .ensures) (c .before .before .put-ok2 .ensures))
 
 pub take-packet-spec : {M : Type 1} → statement M
 take-packet-spec =

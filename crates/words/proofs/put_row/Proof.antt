@@ -5,8 +5,8 @@ use lib.ListN.{length, getD, take, drop}
 use borrow.Author.Needs.{needs}
 use native.Mathlib.Omega.{arith}
 use Rattle.laws.specs.Bytes.{laid}
-use Rattle.words.specs.Rows.{textOf}
-use Rattle.words.proofs.Rules.{rows, lengths, text-short, text-length, row-front}
+use Rattle.words.specs.Rows.{textOf, rows}
+use Rattle.words.proofs.Rules.{lengths, text-short, text-length, row-front}
 use Rattle.words.proofs.put_row.Statement.{statement}
 use Rattle.words.proofs.put_row.Tie as tie
 

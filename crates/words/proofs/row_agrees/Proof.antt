@@ -30,7 +30,7 @@ returns c =
 row-begins-requires : tie.Need-row-begins-requires
 row-begins-requires c κs =
     let a = c .before .before .before in
-    (a .pre, rw (bare-length (a .args .row)) (bare-fits (a .args .row) (a .pre)))
+    (a .pre .0, (a .pre .1, rw (bare-length (a .args .row)) (bare-fits (a .args .row) (a .pre .1))))
 
 returns-2 : tie.Need-returns-2
 unfolding meets
@@ -39,7 +39,7 @@ returns-2 c =
     let row = x .args .row in
     let s = x .args .s .now in
     let l : length s ≡ length (bareOf row) = c .before .if2 .left ∙ bare-length row in
-    let e : c .row-begins .result ≡ same (bareOf row) s = c .row-begins .ensures ∙ ap (λ (n : ℕ). begins (take n (textOf row)) s) (bare-length row) ∙ ap (λ (t : List ℕ). begins t s) (bare-front row (x .pre)) ∙ begins-same (bareOf row) s l in
+    let e : c .row-begins .result ≡ same (bareOf row) s = c .row-begins .ensures ∙ ap (λ (n : ℕ). begins (take n (textOf row)) s) (bare-length row) ∙ ap (λ (t : List ℕ). begins t s) (bare-front row (x .pre .1)) ∙ begins-same (bareOf row) s l in
     rw (c .before .before .if1 .taken) e
 
 mul-n-2 : tie.Need-mul-n-2
@@ -51,7 +51,7 @@ array-read-n-2 c = search needs
 row-begins-requires-2 : tie.Need-row-begins-requires-2
 row-begins-requires-2 c κs =
     let a = c .before .before in
-    (a .pre, rw (text-length (a .args .row)) (omega arith))
+    (a .pre .0, (a .pre .1, rw (text-length (a .args .row)) (omega arith)))
 
 returns-3 : tie.Need-returns-3
 unfolding meets

@@ -2,9 +2,9 @@
 use mathlib.Core.Path.{sym}
 use borrow.Author.Tests.{eq-eqb, ne-eqb, lt-ltb, le-ltb}
 use borrow.Author.Needs.{needs}
-use Rattle.sdcp.specs.Packets.{isBroken}
-use Rattle.sdcp.proofs.is_broken.Statement.{statement}
-use Rattle.sdcp.proofs.is_broken.Tie as tie
+use Rattle.sdcp_asks.specs.Packets.{isBroken}
+use Rattle.sdcp_asks.proofs.is_broken.Statement.{statement}
+use Rattle.sdcp_asks.proofs.is_broken.Tie as tie
 
 byte-at-requires : tie.Need-byte-at-requires
 byte-at-requires c κs = search needs

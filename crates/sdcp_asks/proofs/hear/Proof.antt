@@ -5,9 +5,9 @@ use borrow.Author.Needs.{needs}
 use Rattle.laws.proofs.Lists.{rest}
 use Rattle.vmc.specs.Reading.{readData}
 use Rattle.vmc.specs.declared.Words.the-variants.{Understood, Strange}
-use Rattle.sdcp.specs.Packets.{inWords, dataOf, heardOf}
-use Rattle.sdcp.proofs.hear.Statement.{statement}
-use Rattle.sdcp.proofs.hear.Tie as tie
+use Rattle.sdcp_asks.specs.Packets.{inWords, dataOf, heardOf}
+use Rattle.sdcp_asks.proofs.hear.Statement.{statement}
+use Rattle.sdcp_asks.proofs.hear.Tie as tie
 
 returns : tie.Need-returns
 unfolding heardOf

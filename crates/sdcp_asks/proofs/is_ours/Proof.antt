@@ -1,8 +1,8 @@
 -- `is_ours` compares the front.
 use borrow.Author.Needs.{needs}
-use Rattle.sdcp.specs.Packets.{isOurs}
-use Rattle.sdcp.proofs.is_ours.Statement.{statement}
-use Rattle.sdcp.proofs.is_ours.Tie as tie
+use Rattle.sdcp_asks.specs.Packets.{isOurs}
+use Rattle.sdcp_asks.proofs.is_ours.Statement.{statement}
+use Rattle.sdcp_asks.proofs.is_ours.Tie as tie
 
 slice-aggregate-begins-with : tie.Need-slice-aggregate-begins-with
 slice-aggregate-begins-with c = search needs

@@ -10,8 +10,8 @@ use Rattle.terms.specs.declared.Answer.the-variants.{WrongLength, NotForUs}
 use Rattle.vmc.specs.Reading.{readData}
 use Rattle.vmc.specs.declared.Words.{Words}
 use Rattle.vmc.specs.declared.Words.the-variants.{Understood as UnderstoodWords, Strange as StrangeWords}
-use Rattle.sdcp.specs.declared.Heard.{Heard}
-use Rattle.sdcp.specs.declared.Heard.the-variants.{Refused, Broken, Strange, Understood}
+use Rattle.sdcp_asks.specs.declared.Heard.{Heard}
+use Rattle.sdcp_asks.specs.declared.Heard.the-variants.{Refused, Broken, Strange, Understood}
 
 -- "Numbers are high byte first: version 03h, category 0Bh, community "SONY", group, unit, request, item (2), data length (2), data."
 abbrev pub front : List ℕ

@@ -1,0 +1,67 @@
+// SDCP: what a packet asks, whoever it is addressed to and whatever the panel (document 01, "SDCP and VMC (001, 002, 004)").
+use octets::begins_with;
+use octets::byte_at;
+use octets::number2;
+use terms::Answer;
+use vmc::Order;
+use vmc::Words;
+use vmc::read_data;
+ghost use mathlib.Core.Path.{_≡_};
+ghost use Prim.Native.Nat.{_≤_};
+ghost use lib.ListN.{length};
+ghost use Rattle.sdcp_asks.specs.Packets.{isOurs, isBroken, inWords, heardOf, dataOf};
+
+// What a packet asks, whoever is addressed.
+pub enum Heard {
+    // 3 and 4: no reply
+    Refused(Answer),
+    // 5
+    Broken,
+    // 6
+    Strange,
+    Understood(Order),
+}
+
+// Version, category and community.
+pub fn is_ours(m: &[u8]) -> bool
+    ensures { λ r. ⌜ r ≡ isOurs (now (m .entry)) ⌝ }
+{
+    begins_with(m, b"\x03\x0BSONY")
+}
+
+// Request, item and data length.
+fn is_broken(m: &[u8]) -> bool
+    requires { ⌜ 13 ≤ length (now m) ⌝ }
+    ensures { λ r. ⌜ r ≡ isBroken (now (m .entry)) ⌝ }
+{
+    if byte_at(m, 8) != 0 {
+        return true;
+    }
+    if number2(byte_at(m, 9), byte_at(m, 10)) != 0xB000 {
+        return true;
+    }
+    let size = number2(byte_at(m, 11), byte_at(m, 12)) as usize;
+    if 499 < size {
+        return true;
+    }
+    size != m.len() - 13
+}
+
+// What the packet asks. The data area, from byte 13 to its end, is lent on to the word reader.
+pub fn hear(m: &[u8]) -> Heard
+    ensures { λ r. ⌜ r ≡ heardOf (now (m .entry)) ⌝ }
+{
+    if m.len() < 13 {
+        return Heard::Refused(Answer::WrongLength);
+    }
+    if !is_ours(m) {
+        return Heard::Refused(Answer::NotForUs);
+    }
+    if is_broken(m) {
+        return Heard::Broken;
+    }
+    let Words::Understood(o) = read_data(&m[13..]) else {
+        return Heard::Strange;
+    };
+    Heard::Understood(o)
+}
