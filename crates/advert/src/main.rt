@@ -2,9 +2,9 @@
 use libc::STDIN_FILENO;
 use libc::STDOUT_FILENO;
 use sdap::Advert;
-use sdap::read_advert;
 use sdap::text_length;
-use terms::number_of;
+use sdap_read::read_advert;
+use terms::answer_number;
 
 // Reads once, drops what came, and answers whether there may be more.
 fn drop_some() -> bool {
@@ -51,7 +51,7 @@ fn main() {
     drop_all();
     let read = read_advert(&input[..n]);
     let answer = read.answer;
-    let number = number_of(answer);
+    let number = answer_number(answer);
     if number != 0 {
         print_line(b"refused ", number as u64);
         return;

@@ -7,10 +7,10 @@ use Rattle.sums.specs.Sums.{sumsToZero}
 use Rattle.terms.specs.Answers.{numberOf}
 use Rattle.sdap.specs.Rules.{readAnswer}
 use Rattle.sdap.specs.declared.Advert.{Advert}
-use Rattle.panels.specs.Configure.{configured}
+use Rattle.configure.specs.Configure.{configured}
 use Rattle.panels.specs.declared.Panel.{Panel}
 use Rattle.panels.specs.declared.DisplayBox.{DisplayBox}
-use Rattle.ways.specs.Called.{Called, panelBehind}
+use Rattle.host_box.specs.Called.{Called, panelBehind}
 use Rattle.host.specs.declared.Outcome.{Outcome}
 use Rattle.host.specs.Calls.{WrittenForC, outcomeOf}
 

@@ -7,7 +7,7 @@ use Rattle.terms.specs.Answers.{numberOf}
 use Rattle.sdap.specs.Layout.{advertOf}
 use Rattle.sdap.specs.Rules.{writeAnswer, left}
 use Rattle.sdap.specs.declared.Advert.{Advert}
-use Rattle.ways.specs.Called.{Called}
+use Rattle.host_box.specs.Called.{Called}
 use Rattle.host.specs.declared.Outcome.{Outcome}
 
 -- the advert that the call's numbers and areas name

@@ -1,21 +1,21 @@
 // The calls for the C host: numbers and byte areas in, numbers out. include/display_box.h declares them.
+use host_box::make_box;
+use host_box::panel_behind;
+use host_box::take_message;
 use panels::DisplayBox;
 use panels::Panel;
-use sdap::read_answer;
-use sdap::write_advert;
+use sdap_read::read_answer;
+use sdap_write::write_advert;
 use sums::sums_to_zero;
 use terms::GroupId;
 use terms::UnitId;
-use terms::number_of;
-use ways::make_box;
-use ways::panel_behind;
-use ways::take_message;
+use terms::answer_number;
 ghost use mathlib.Core.Path.{_≡_};
 ghost use Rattle.terms.specs.Answers.{numberOf};
 ghost use Rattle.sums.specs.Sums.{sumsToZero};
 ghost use Rattle.sdap.specs.Rules.{readAnswer};
-ghost use Rattle.panels.specs.Configure.{configured};
-ghost use Rattle.ways.specs.Called.{called, panelBehind};
+ghost use Rattle.configure.specs.Configure.{configured};
+ghost use Rattle.host_box.specs.Called.{called, panelBehind};
 ghost use Rattle.host.specs.Calls.{WrittenForC, fieldsFromC, outcomeOf};
 
 // What the host is told of a message: the answer's number, and the reply's length.
@@ -79,7 +79,7 @@ pub extern "C" fn box_checksum_ok(area: &[u8]) -> bool
 pub extern "C" fn box_advert_read(bytes: &[u8]) -> u8
     ensures { λ r. ⌜ r ≡ numberOf (readAnswer (now (bytes .entry))) ⌝ }
 {
-    number_of(read_answer(bytes))
+    answer_number(read_answer(bytes))
 }
 
 // The advert writer: "it returns the number alone".
@@ -119,5 +119,5 @@ pub extern "C" fn box_advert_write(
         UnitId(unit),
         out,
     );
-    number_of(answer)
+    answer_number(answer)
 }

@@ -5,8 +5,8 @@ use mathlib.Core.List.{List}
 use Rattle.turns.specs.Turns.{Takes}
 use Rattle.turns.proofs.Turns.{takes-one}
 use Rattle.panels.specs.declared.KRecord.{KRecord}
-use Rattle.kjw.specs.Rules.{turned}
-use Rattle.kjw.specs.declared.Taken.{Taken}
+use Rattle.kjw.specs.Rules.{turnOf}
+use Rattle.kjw.specs.declared.Outcome.{Outcome}
 
-pub take-frame-one : (m : List ℕ) (k : KRecord) (area : List ℕ) (r r′ : Taken) (z z′ : List ℕ) → Takes (turned m) k area (r .k) (r .answer) (r .len) z → Takes (turned m) k area (r′ .k) (r′ .answer) (r′ .len) z′ → (r .k ≡ r′ .k) × (r .answer ≡ r′ .answer) × (r .len ≡ r′ .len) × (z ≡ z′)
-take-frame-one m k area r r′ z z′ = takes-one (turned m) k area _ _ _ _ _ _ z z′
+pub take-frame-one : (m : List ℕ) (k : KRecord) (area : List ℕ) (r r′ : Outcome) (z z′ : List ℕ) → Takes (turnOf m) k area (r .after) (r .answer) (r .len) z → Takes (turnOf m) k area (r′ .after) (r′ .answer) (r′ .len) z′ → (r .after ≡ r′ .after) × (r .answer ≡ r′ .answer) × (r .len ≡ r′ .len) × (z ≡ z′)
+take-frame-one m k area r r′ z z′ = takes-one (turnOf m) k area _ _ _ _ _ _ z z′

@@ -7,17 +7,18 @@ use native.Mathlib.Omega.{arith}
 use lib.ListN.{length, length-append}
 use lib.Dec.{eqb}
 use Rattle.panels.specs.declared.KRecord.{KRecord}
-use Rattle.numbers.specs.Decimals.{inDigits}
-use Rattle.kjw.specs.Frames.{frameOf, nameOf, off, on, auto, autoSync, general, switchWord, sceneWord, inputWord, valueOf}
-use Rattle.kjw.specs.declared.State.{State}
-use Rattle.kjw.specs.declared.State.the-variants.{Power, AudioMute, PictureMute, Volume, Input, Scene}
+use Rattle.decimals.specs.Decimals.{inDigits}
+use Rattle.kjw_asks.specs.Frames.{frameOf, stateLetters, off, on, auto, autoSync, general}
+use Rattle.kjw.specs.Frames.{switchWord, sceneWord, inputWord, valueOf}
+use Rattle.kjw_asks.specs.declared.State.{State}
+use Rattle.kjw_asks.specs.declared.State.the-variants.{Power, AudioMute, PictureMute, Volume, Input, Scene}
 
 pub frame-length : (t : ℕ) (l p : List ℕ) → length l ≡ 4 → length p ≡ 16 → length (frameOf t l p) ≡ 24
 unfolding frameOf
 frame-length t l p e f = simp length-append (omega arith)
 
-pub name-length : (s : State) → length (nameOf s) ≡ 4
-unfolding nameOf
+pub name-length : (s : State) → length (stateLetters s) ≡ 4
+unfolding stateLetters
 name-length Power = refl
 name-length AudioMute = refl
 name-length PictureMute = refl

@@ -1,9 +1,8 @@
 pub mod Determined
-pub mod Door
 mod Examples
-pub mod Kept
+pub mod Validity
 mod Lengths
 pub mod Notices
-mod Orders
 pub mod Stays
-pub mod Told
+pub mod AskedBack
+pub mod Refusals

@@ -10,17 +10,22 @@ use Rattle.laws.specs.Lists.{listed}
 use Rattle.laws.proofs.Conditions.{false-true}
 use Rattle.laws.proofs.Lists.{same-self, same-is}
 use Rattle.panels.specs.declared.KRecord.{KRecord}
-use Rattle.kjw.specs.Frames.{frameOf, typeAnswer, typeNotice, lettersOf, accepted, rejected, nameOf, valueOf}
-use Rattle.kjw.specs.Rules.{heardOf, carried, noticed, replyOf, turnOf, bytesOf, turned}
-use Rattle.kjw.specs.declared.State.{State}
-use Rattle.kjw.specs.declared.State.the-variants.{Power, AudioMute, PictureMute, Volume, Input}
-use Rattle.kjw.specs.declared.Order.{Order}
-use Rattle.kjw.specs.declared.Order.the-variants.{SetPower, TogglePower, SetAudioMute, SetPictureMute, TogglePictureMute, SetVolume, SetInput, SetScene, Ask}
-use Rattle.kjw.specs.declared.Heard.{Heard}
-use Rattle.kjw.specs.declared.Heard.the-variants.{Refused, Strange, Understood}
+use Rattle.kjw_asks.specs.Frames.{frameOf, typeAnswer, typeNotice, lettersOf, stateLetters}
+use Rattle.kjw.specs.Frames.{accepted, rejected, valueOf}
+use Rattle.kjw_asks.specs.Asks.{heardOf}
+use Rattle.kjw.specs.Rules.{carried, noticed, replyOf, decided, bytesOf, turnOf}
+use Rattle.kjw_asks.specs.declared.State.{State}
+use Rattle.kjw_asks.specs.declared.State.the-variants.{Power, AudioMute, PictureMute, Volume, Input}
+use Rattle.kjw_asks.specs.declared.Order.{Order}
+use Rattle.kjw_asks.specs.declared.Order.the-variants.{SetPower, TogglePower, SetAudioMute, SetPictureMute, TogglePictureMute, SetVolume, SetInput, SetScene, Ask}
+use Rattle.kjw_asks.specs.declared.Heard.{Heard}
+use Rattle.kjw_asks.specs.declared.Heard.the-variants.{Refused, NotUnderstood, Understood}
 use Rattle.kjw.specs.declared.Reply.{Reply}
-use Rattle.kjw.specs.declared.Reply.the-variants.{Silent, Rejected, Accepted, Changed, Told}
+use Rattle.kjw.specs.declared.Reply.the-variants.{Silent, Rejected, Accepted, Changed, Value}
 use Rattle.kjw.proofs.Lengths.{frame-length, name-length, value-length}
+use Rattle.turns.specs.Turns.{Turn, taken}
+use Rattle.turns.proofs.Turns.{either}
+use Rattle.kjw.proofs.Door.{}
 
 -- how many bytes a reply has
 abbrev lengthOf : Reply → ℕ
@@ -28,30 +33,30 @@ lengthOf Silent = 0
 lengthOf Rejected = 24
 lengthOf Accepted = 24
 lengthOf (Changed s) = 48
-lengthOf (Told s) = 24
+lengthOf (Value s) = 24
 
 bytes-length : (r : Reply) (k : KRecord) (l : List ℕ) → length l ≡ 4 → length (bytesOf r k l) ≡ lengthOf r
 unfolding bytesOf
 bytes-length Silent k l e = refl
 bytes-length Rejected k l e = frame-length typeAnswer l rejected e refl
 bytes-length Accepted k l e = frame-length typeAnswer l accepted e refl
-bytes-length (Changed s) k l e = length-append (frameOf typeAnswer l accepted) (frameOf typeNotice (nameOf s) (valueOf s k)) ∙ rw (frame-length typeAnswer l accepted e refl, frame-length typeNotice (nameOf s) (valueOf s k) (name-length s) (value-length s k))
-bytes-length (Told s) k l e = frame-length typeAnswer l (valueOf s k) e (value-length s k)
+bytes-length (Changed s) k l e = length-append (frameOf typeAnswer l accepted) (frameOf typeNotice (stateLetters s) (valueOf s k)) ∙ rw (frame-length typeAnswer l accepted e refl, frame-length typeNotice (stateLetters s) (valueOf s k) (name-length s) (value-length s k))
+bytes-length (Value s) k l e = frame-length typeAnswer l (valueOf s k) e (value-length s k)
 
-turned-length : (m : List ℕ) (k : KRecord) → length (turned m k .reply) ≡ lengthOf (turnOf k (heardOf m) .reply)
-unfolding turned lettersOf
-turned-length m k = bytes-length (turnOf k (heardOf m) .reply) (turnOf k (heardOf m) .k) (lettersOf m) refl
+turned-length : (m : List ℕ) (k : KRecord) → length (turnOf m k .reply) ≡ lengthOf (decided k (heardOf m) .reply)
+unfolding turnOf lettersOf
+turned-length m k = bytes-length (decided k (heardOf m) .reply) (decided k (heardOf m) .k) (lettersOf m) refl
 
 -- nothing, an answer, or an answer and a notice
-pub reply-length : (m : List ℕ) (k : KRecord) → listed (0 ∷ 24 ∷ 48 ∷ []) (length (turned m k .reply)) ≡ true
-reply-length m k = ap (listed (0 ∷ 24 ∷ 48 ∷ [])) (turned-length m k) ∙ one-of (turnOf k (heardOf m) .reply)
+pub reply-length : (m : List ℕ) (k : KRecord) → listed (0 ∷ 24 ∷ 48 ∷ []) (length (turnOf m k .reply)) ≡ true
+reply-length m k = ap (listed (0 ∷ 24 ∷ 48 ∷ [])) (turned-length m k) ∙ one-of (decided k (heardOf m) .reply)
   where
     one-of : (r : Reply) → listed (0 ∷ 24 ∷ 48 ∷ []) (lengthOf r) ≡ true
     one-of Silent = refl
     one-of Rejected = refl
     one-of Accepted = refl
     one-of (Changed s) = refl
-    one-of (Told s) = refl
+    one-of (Value s) = refl
 
 -- a reply of 48 bytes tells a state whose value is not what it was
 pub record Notice (k k′ : KRecord) : Type 0 where
@@ -87,18 +92,22 @@ reply-changed (SetInput kind port) k k′ e = noticed-changed Input k k′ e
 reply-changed (SetScene v) k k′ e = absurd (omega arith)
 reply-changed (Ask s) k k′ e = absurd (omega arith)
 
-turn-changed : (h : Heard) (k : KRecord) → lengthOf (turnOf k h .reply) ≡ 48 → Notice k (turnOf k h .k)
-unfolding turnOf
+turn-changed : (h : Heard) (k : KRecord) → lengthOf (decided k h .reply) ≡ 48 → Notice k (decided k h .k)
+unfolding decided
 turn-changed (Refused a) k e = absurd (omega arith)
-turn-changed Strange k e = absurd (omega arith)
+turn-changed NotUnderstood k e = absurd (omega arith)
 turn-changed (Understood o) k e = reply-changed o k (carried o k) e
 
-pub notice-changed : (m : List ℕ) (k : KRecord) → length (turned m k .reply) ≡ 48 → Notice k (turned m k .after)
-unfolding turned
+pub notice-changed : (m : List ℕ) (k : KRecord) → length (turnOf m k .reply) ≡ 48 → Notice k (turnOf m k .after)
+unfolding turnOf
 notice-changed m k e = turn-changed (heardOf m) k (sym (turned-length m k) ∙ e)
 
 -- so a panel that stays as it was has no notice
-pub unchanged-silent : (m : List ℕ) (k : KRecord) → turned m k .after ≡ k → length (turned m k .reply) ≡ 48 → ⊥
+pub unchanged-silent : (m : List ℕ) (k : KRecord) → turnOf m k .after ≡ k → length (turnOf m k .reply) ≡ 48 → ⊥
 unchanged-silent m k q e =
     let n = notice-changed m k e in
     n .changed (ap (valueOf (n .state)) (sym q))
+
+-- a panel that stays as it was has no notice
+pub taken-silent : (room : ℕ) (m : List ℕ) (k : KRecord) → taken room (turnOf m) k .after ≡ k → length (taken room (turnOf m) k .reply) ≡ 48 → ⊥
+taken-silent room m k = either (λ (t : Turn KRecord). t .after ≡ k → length (t .reply) ≡ 48 → ⊥) room (turnOf m) k (λ q e. omega arith) (unchanged-silent m k)

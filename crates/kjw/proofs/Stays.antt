@@ -10,15 +10,16 @@ use borrow.Author.Tests.{eqb-false}
 use Rattle.turns.specs.Turns.{Turn, taken}
 use Rattle.turns.proofs.Turns.{either}
 use Rattle.panels.specs.declared.KRecord.{KRecord}
-use Rattle.numbers.specs.Decimals.{inDigits}
+use Rattle.decimals.specs.Decimals.{inDigits}
 use Rattle.kjw.specs.Frames.{switchWord, sceneWord, inputWord, valueOf}
-use Rattle.kjw.specs.Rules.{heardOf, flipped, carried, turnOf, turned}
-use Rattle.kjw.specs.declared.State.{State}
-use Rattle.kjw.specs.declared.State.the-variants.{Power, AudioMute, PictureMute, Volume, Input, Scene}
-use Rattle.kjw.specs.declared.Order.{Order}
-use Rattle.kjw.specs.declared.Order.the-variants.{SetPower, TogglePower, SetAudioMute, SetPictureMute, TogglePictureMute, SetVolume, SetInput, SetScene, Ask}
-use Rattle.kjw.specs.declared.Heard.{Heard}
-use Rattle.kjw.specs.declared.Heard.the-variants.{Refused, Strange, Understood}
+use Rattle.kjw_asks.specs.Asks.{heardOf}
+use Rattle.kjw.specs.Rules.{flipped, carried, decided, turnOf}
+use Rattle.kjw_asks.specs.declared.State.{State}
+use Rattle.kjw_asks.specs.declared.State.the-variants.{Power, AudioMute, PictureMute, Volume, Input, Scene}
+use Rattle.kjw_asks.specs.declared.Order.{Order}
+use Rattle.kjw_asks.specs.declared.Order.the-variants.{SetPower, TogglePower, SetAudioMute, SetPictureMute, TogglePictureMute, SetVolume, SetInput, SetScene, Ask}
+use Rattle.kjw_asks.specs.declared.Heard.{Heard}
+use Rattle.kjw_asks.specs.declared.Heard.the-variants.{Refused, NotUnderstood, Understood}
 
 -- the states in a row, and the one that an order sets; an enquiry sets none of the six
 abbrev pub placeOf : State → ℕ
@@ -43,7 +44,7 @@ placeSet (Ask s) = 6
 -- what was heard is an order that sets the state
 abbrev pub setsState : Heard → State → Bool
 setsState (Refused a) s = false
-setsState Strange s = false
+setsState NotUnderstood s = false
 setsState (Understood o) s = eqb (placeOf s) (placeSet o)
 
 -- the numbers of each state
@@ -71,13 +72,13 @@ value-by-row Volume k k′ e = ap (λ (r : List ℕ). inDigits 16 (getD r 0 0)) 
 value-by-row Input k k′ e = ap (λ (r : List ℕ). inputWord (getD r 0 0) (getD r 1 0)) e
 value-by-row Scene k k′ e = ap (λ (r : List ℕ). sceneWord (getD r 0 0)) e
 
-turn-stays : (h : Heard) (s : State) (k : KRecord) → setsState h s ≡ false → valueOf s (turnOf k h .k) ≡ valueOf s k
-unfolding turnOf
+turn-stays : (h : Heard) (s : State) (k : KRecord) → setsState h s ≡ false → valueOf s (decided k h .k) ≡ valueOf s k
+unfolding decided
 turn-stays (Refused a) s k n = refl
-turn-stays Strange s k n = refl
+turn-stays NotUnderstood s k n = refl
 turn-stays (Understood o) s k n = value-by-row s k (carried o k) (row-stays o k (placeOf s) n)
 
 -- whatever the message and the area, the value of a state stays, but for an order that sets it
-pub stays : (room : ℕ) (m : List ℕ) (s : State) (k : KRecord) → setsState (heardOf m) s ≡ false → valueOf s (taken room (turned m) k .after) ≡ valueOf s k
-unfolding turned
-stays room m s k n = either (λ (t : Turn KRecord). valueOf s (t .after) ≡ valueOf s k) room (turned m) k refl (turn-stays (heardOf m) s k n)
+pub stays : (room : ℕ) (m : List ℕ) (s : State) (k : KRecord) → setsState (heardOf m) s ≡ false → valueOf s (taken room (turnOf m) k .after) ≡ valueOf s k
+unfolding turnOf
+stays room m s k n = either (λ (t : Turn KRecord). valueOf s (t .after) ≡ valueOf s k) room (turnOf m) k refl (turn-stays (heardOf m) s k n)

@@ -6,3 +6,4 @@ pub mod Runs
 pub mod Signed
 pub mod Table
 pub mod Texts
+pub mod Bytes

@@ -2,11 +2,12 @@
 use mathlib.Core.Path.{_≡_, sym, _∙_}
 use mathlib.Core.Bool.{Bool}
 use mathlib.Core.List.{List, [], _∷_}
-use Prim.Native.Nat.{ℕ}
+use Prim.Native.Nat.{ℕ, _≤_}
 use lib.ListN.{getD}
 use Rattle.laws.specs.Bytes.{same, begins, laid}
 use Rattle.laws.specs.Lists.{listed, within}
 use Rattle.laws.specs.Numbers.{number, inBytes}
+use lib.Count.{ones}
 
 pub same-bytes-one : (a b : List ℕ) (r r′ : Bool) → r ≡ same a b → r′ ≡ same a b → r ≡ r′
 same-bytes-one a b r r′ p q = p ∙ sym q
@@ -41,3 +42,6 @@ begins-with-one s front r r′ p q = p ∙ sym q
 
 pub lay-one : (d s : List ℕ) (n : ℕ) (x x′ : List ℕ) → x ≡ laid d n s → x′ ≡ laid d n s → x ≡ x′
 lay-one d s n x x′ p q = p ∙ sym q
+
+pub ones-of-one : (x r r′ : ℕ) → (r ≡ ones x) × (r ≤ 8) → (r′ ≡ ones x) × (r′ ≤ 8) → r ≡ r′
+ones-of-one x r r′ p q = p .0 ∙ sym (q .0)

@@ -1,4 +1,7 @@
 // Leaves that many crates use: a byte read at any place, bytes laid over an area, two areas compared, numbers listed and
+ghost use lib.Count.{ones};
+ghost use Prim.Native.Nat.{_≤_};
+
 // bounded, and numbers high byte first.
 ghost use mathlib.Core.Path.{_≡_};
 ghost use mathlib.Core.List.{[], _∷_};
@@ -127,4 +130,11 @@ pub fn lay(out: &mut [u8], at: usize, bytes: &[u8])
         out[at + i] = bytes[i];
         i += 1;
     }
+}
+
+// The number of ones in a byte.
+pub fn ones_of(x: u8) -> usize
+    ensures { λ r. ⌜ (r ≡ ones x) × (r ≤ 8) ⌝ }
+{
+    u8::count_ones(x) as usize
 }

@@ -1,34 +1,14 @@
 -- A configured box keeps the rules or holds no panels, and what is not judged does not matter to validity.
 use mathlib.Core.Path.{_≡_, refl}
-use mathlib.Core.Bool.{Bool, true, false, cond, _&&_}
-use mathlib.Core.List.{List}
-use Prim.Native.Nat.{ℕ, _%_}
-use lib.Dec.{eqb}
-use lib.ListN.{length}
-use Rattle.laws.proofs.Conditions.{and-second}
-use Rattle.terms.specs.declared.Answer.the-variants.{Done}
+use mathlib.Core.Bool.{false}
+use Prim.Native.Nat.{ℕ}
 use Rattle.terms.specs.declared.GroupId.{GroupId}
 use Rattle.terms.specs.declared.UnitId.{UnitId}
 use Rattle.panels.specs.Records.{familyW, familyK, noBox}
 use Rattle.panels.specs.Valid.{okPanel, inUse, valid}
-use Rattle.panels.specs.Configure.{asked, refusal, configured}
 use Rattle.panels.specs.declared.WRecord.{WRecord}
 use Rattle.panels.specs.declared.KRecord.{KRecord}
 use Rattle.panels.specs.declared.DisplayBox.{DisplayBox}
-use Rattle.panels.specs.declared.Configured.{Configured}
-
--- what a configuration gives with an answer: 0 and a box that keeps the rules, or 7 and the one box of no panels
-pub data Outcome : Configured → Type 0 where
-  made : (b : DisplayBox) → valid b ≡ true → Outcome (record { answer = Done; made = b })
-  refused : Outcome refusal
-
-pub outcome : (c : List ℕ) → Outcome (configured c)
-unfolding configured
-outcome c = go (eqb (length c % 3) 0 && valid (asked c)) refl
-  where
-    go : (b : Bool) → (eqb (length c % 3) 0 && valid (asked c)) ≡ b → Outcome (cond b (record { answer = Done; made = asked c }) refusal)
-    go true e = made (asked c) (and-second (eqb (length c % 3) 0) (valid (asked c)) e)
-    go false e = refused
 
 -- the box of no panels breaks the rule "1 to 8 panels"
 pub no-box-invalid : valid noBox ≡ false

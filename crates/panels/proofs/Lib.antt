@@ -1,5 +1,4 @@
 pub mod Boxes
 pub mod Determined
 mod Distinct
-mod Examples
 pub mod Ranges

@@ -1,4 +1,3 @@
-pub mod Configure
 pub mod Pairs
 pub mod Records
 pub mod Valid

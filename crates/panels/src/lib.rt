@@ -2,23 +2,20 @@
 use octets::are_within;
 use octets::is_listed;
 use settings::most_values;
-use settings::start_values;
-use terms::Answer;
 use terms::GroupId;
 use terms::UnitId;
 use terms::same_group;
 use terms::same_unit;
 ghost use mathlib.Core.Path.{_≡_};
-ghost use Prim.Native.Nat.{_+_, _*_, _<_, _≤_};
+ghost use Prim.Native.Nat.{_+_, _<_, _≤_};
 ghost use mathlib.Core.Bool.{_&&_};
 ghost use mathlib.Core.List.{map};
 ghost use lib.Dec.{leb};
-ghost use lib.ListN.{length, take, drop};
+ghost use lib.ListN.{take, drop};
 ghost use Rattle.laws.specs.Lists.{every};
-ghost use Rattle.panels.specs.Records.{startW, startK, zeroPanel};
+ghost use Rattle.panels.specs.Records.{zeroPanel};
 ghost use Rattle.panels.specs.Valid.{okShift, okBias, okInputs, okGain, okBalance, okW, okInput, okK, okIds, zeroIds, okPanel, share, apart, distinct, valid};
 ghost use Rattle.panels.specs.Pairs.{bare, gathered};
-ghost use Rattle.panels.specs.Configure.{asked, freshPanel, refusal, configured};
 
 // The inputs of a W panel: the code of the connector in use, the code of the preset white balance, and which of the ten
 // connectors are ON, in the order of the table of their codes.
@@ -81,12 +78,6 @@ struct Ids {
 pub struct DisplayBox {
     pub count: usize,
     pub panels: [Panel; 8],
-}
-
-// What a configuration gives: its answer, and the box.
-pub struct Configured {
-    pub answer: Answer,
-    pub made: DisplayBox,
 }
 
 // "SHIFTH or SHIFTV with -30 to +30."
@@ -392,53 +383,6 @@ pub fn is_valid(b: DisplayBox) -> bool
     all_apart(ids)
 }
 
-fn start_w() -> WRecord
-    ensures { λ r. ⌜ r ≡ startW ⌝ }
-{
-    WRecord {
-        settings: start_values(),
-        shifts: [0; 2],
-        spare: 0,
-        inputs: Inputs {
-            used: 0,
-            preset: 3,
-            on: [1; 10],
-        },
-        balance: Balance {
-            gains: [2048; 3],
-            biases: [0; 3],
-        },
-    }
-}
-
-fn start_k() -> KRecord
-    ensures { λ r. ⌜ r ≡ startK ⌝ }
-{
-    KRecord {
-        power: 0,
-        amut: 0,
-        pmut: 0,
-        volume: 0,
-        scene: 2,
-        kind: 1,
-        port: 1,
-    }
-}
-
-// A panel at its start values.
-fn fresh_panel(family: u8, group: u8, unit: u8) -> Panel
-    ensures { λ r. ⌜ r ≡ freshPanel family group unit ⌝ }
-{
-    Panel {
-        family,
-        group: GroupId(group),
-        unit: UnitId(unit),
-        spare: 0,
-        w: start_w(),
-        k: start_k(),
-    }
-}
-
 // A place that holds no panel: all zeros.
 pub fn zero_panel() -> Panel
     ensures { λ r. ⌜ r ≡ zeroPanel ⌝ }
@@ -471,54 +415,5 @@ pub fn zero_panel() -> Panel
             kind: 0,
             port: 0,
         },
-    }
-}
-
-// The box that three bytes a panel ask for.
-fn asked_box(c: &[u8]) -> DisplayBox
-    requires { ⌜ length (now c) ≤ 24 ⌝ }
-    ensures { λ r. ⌜ r ≡ asked (now (c .entry)) ⌝ }
-{
-    let n = c.len() / 3;
-    let empty = zero_panel();
-    let mut panels = [empty; 8];
-    let mut i = 0;
-    while i < n {
-        panels[i] = fresh_panel(c[i * 3], c[i * 3 + 1], c[i * 3 + 2]);
-        i += 1;
-    }
-    DisplayBox { count: n, panels }
-}
-
-fn refused() -> Configured
-    ensures { λ r. ⌜ r ≡ refusal ⌝ }
-{
-    let empty = zero_panel();
-    Configured {
-        answer: Answer::BadConfiguration,
-        made: DisplayBox {
-            count: 0,
-            panels: [empty; 8],
-        },
-    }
-}
-
-// A new box: three bytes a panel, its family (57h or 4Bh), its group and its unit.
-pub fn configure(c: &[u8]) -> Configured
-    ensures { λ r. ⌜ r ≡ configured (now (c .entry)) ⌝ }
-{
-    if 24 < c.len() {
-        return refused();
-    }
-    if c.len() % 3 != 0 {
-        return refused();
-    }
-    let b = asked_box(c);
-    if !is_valid(b) {
-        return refused();
-    }
-    Configured {
-        answer: Answer::Done,
-        made: b,
     }
 }

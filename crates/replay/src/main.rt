@@ -1,10 +1,10 @@
 // Reads a script from standard input, line by line, and writes what the box did (docs/SCRIPTS.md).
+use configure::configure;
 use libc::STDIN_FILENO;
 use libc::STDOUT_FILENO;
 use panels::DisplayBox;
-use panels::configure;
-use pieces::take_part;
 use script::answer_line;
+use script_pieces::take_part;
 ghost use mathlib.Core.Path.{_≡_};
 ghost use Prim.Native.Nat.{_+_, _≤_};
 ghost use lib.ListN.{length};

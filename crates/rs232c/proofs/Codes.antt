@@ -9,17 +9,17 @@ use lib.ListN.{length, getD}
 use borrow.Author.Tests.{not-false}
 use Rattle.laws.proofs.Conditions.{and-second, and-both}
 use Rattle.terms.specs.declared.Answer.the-variants.{WrongLength, NotForUs}
-use Rattle.rs232c.specs.Frames.{isForeign, isBroken, configCommand, selectCommand, levelsCommand, senseCommand, commandOf, heardOf}
-use Rattle.rs232c.specs.Orders.{configGood, selectGood}
-use Rattle.rs232c.specs.declared.Order.the-variants.{Config, Select, Levels, Sense, Remote}
-use Rattle.rs232c.specs.declared.Heard.{Heard}
-use Rattle.rs232c.specs.declared.Heard.the-variants.{Refused, Broken, Strange, Understood}
+use Rattle.rs232c_asks.specs.Asks.{isForeign, isBroken, configCommand, selectCommand, levelsCommand, senseCommand, commandOf, heardOf}
+use Rattle.rs232c_asks.specs.Commands.{configGood, selectGood}
+use Rattle.rs232c_asks.specs.declared.Order.the-variants.{Config, Select, Levels, Sense, Remote}
+use Rattle.rs232c_asks.specs.declared.Heard.{Heard}
+use Rattle.rs232c_asks.specs.declared.Heard.the-variants.{Refused, Broken, NotUnderstood, Understood}
 
 -- what was heard is of the command with this code, and good
 abbrev pub bears : ℕ → Heard → Bool
 bears code (Refused a) = true
 bears code (Broken s) = true
-bears code (Strange s) = true
+bears code (NotUnderstood s) = true
 bears code (Understood s (Config marks byte)) = eqb code 0x21 && configGood marks byte
 bears code (Understood s (Select byte)) = eqb code 0x22 && selectGood byte
 bears code (Understood s (Levels mask)) = eqb code 0x40
@@ -34,24 +34,24 @@ either code false x y p q = q refl
 config-bears : (code s n a b : ℕ) → eqb code 0x21 ≡ true → bears code (configCommand s n a b) ≡ true
 unfolding configCommand
 config-bears code s n a b e =
-    either code (not (eqb n 2)) (Strange s) _ (λ f. refl) (λ f.
-    either code (not (configGood a b)) (Strange s) (Understood s (Config a b)) (λ g. refl) (λ g. and-both (eqb code 0x21) (configGood a b) e (not-false (configGood a b) g)))
+    either code (not (eqb n 2)) (NotUnderstood s) _ (λ f. refl) (λ f.
+    either code (not (configGood a b)) (NotUnderstood s) (Understood s (Config a b)) (λ g. refl) (λ g. and-both (eqb code 0x21) (configGood a b) e (not-false (configGood a b) g)))
 
 select-bears : (code s n a : ℕ) → eqb code 0x22 ≡ true → bears code (selectCommand s n a) ≡ true
 unfolding selectCommand
 select-bears code s n a e =
-    either code (not (eqb n 1)) (Strange s) _ (λ f. refl) (λ f.
-    either code (not (selectGood a)) (Strange s) (Understood s (Select a)) (λ g. refl) (λ g. and-both (eqb code 0x22) (selectGood a) e (not-false (selectGood a) g)))
+    either code (not (eqb n 1)) (NotUnderstood s) _ (λ f. refl) (λ f.
+    either code (not (selectGood a)) (NotUnderstood s) (Understood s (Select a)) (λ g. refl) (λ g. and-both (eqb code 0x22) (selectGood a) e (not-false (selectGood a) g)))
 
 levels-bears : (code s n a : ℕ) → eqb code 0x40 ≡ true → bears code (levelsCommand s n a) ≡ true
 unfolding levelsCommand
-levels-bears code s n a e = either code (not (eqb n (1 + 2 * ones (a % 64)))) (Strange s) (Understood s (Levels a)) (λ f. refl) (λ f. e)
+levels-bears code s n a e = either code (not (eqb n (1 + 2 * ones (a % 64)))) (NotUnderstood s) (Understood s (Levels a)) (λ f. refl) (λ f. e)
 
 sense-bears : (code s n a : ℕ) → eqb code 0x61 ≡ true → bears code (senseCommand s n a) ≡ true
 unfolding senseCommand
 sense-bears code s n a e =
-    either code (not (eqb n 1)) (Strange s) _ (λ f. refl) (λ f.
-    either code (eqb a 1) (Understood s (Sense a)) _ (λ g. e) (λ g. either code (eqb a 2) (Understood s (Sense a)) (Strange s) (λ h. e) (λ h. refl)))
+    either code (not (eqb n 1)) (NotUnderstood s) _ (λ f. refl) (λ f.
+    either code (eqb a 1) (Understood s (Sense a)) _ (λ g. e) (λ g. either code (eqb a 2) (Understood s (Sense a)) (NotUnderstood s) (λ h. e) (λ h. refl)))
 
 command-bears : (s code n a b : ℕ) → bears code (commandOf s code n a b) ≡ true
 unfolding commandOf
@@ -60,8 +60,8 @@ command-bears s code n a b =
     either code (eqb code 0x22) (selectCommand s n a) _ (select-bears code s n a) (λ f.
     either code (eqb code 0x40) (levelsCommand s n a) _ (levels-bears code s n a) (λ g.
     either code (eqb code 0x61) (senseCommand s n a) _ (sense-bears code s n a) (λ h.
-    either code (not (eqb code 0x6e)) (Strange s) _ (λ i. refl) (λ i.
-    either code (not (eqb n 0)) (Strange s) (Understood s Remote) (λ j. refl) (λ j. not-false (eqb code 0x6e) i))))))
+    either code (not (eqb code 0x6e)) (NotUnderstood s) _ (λ i. refl) (λ i.
+    either code (not (eqb n 0)) (NotUnderstood s) (Understood s Remote) (λ j. refl) (λ j. not-false (eqb code 0x6e) i))))))
 
 -- the command's code is the message's fifth byte
 pub heard-bears : (m : List ℕ) → bears (getD m 4 0) (heardOf m) ≡ true

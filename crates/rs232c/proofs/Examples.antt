@@ -9,8 +9,9 @@ use Rattle.sums.specs.Sums.{sumOf}
 use Rattle.terms.specs.declared.Answer.the-variants.{EnvelopeWrong, NotUnderstood, AreaTooSmall}
 use Rattle.turns.specs.Turns.{taken}
 use Rattle.panels.specs.Records.{startW}
-use Rattle.rs232c.specs.Frames.{isForeign, isBroken, configCommand, selectCommand, levelsCommand, senseCommand, commandOf, heardOf}
-use Rattle.rs232c.specs.Orders.{placeOf, connectorGood, presetGood, configGood, usedAfter, presetAfter, selectGood, turnedOff, onAfter, decode, balancedBy, carried}
+use Rattle.rs232c_asks.specs.Asks.{isForeign, isBroken, configCommand, selectCommand, levelsCommand, senseCommand, commandOf, heardOf}
+use Rattle.rs232c.specs.Orders.{placeOf, usedAfter, presetAfter, turnedOff, onAfter, decode, balancedBy, carried}
+use Rattle.rs232c_asks.specs.Commands.{connectorGood, presetGood, configGood, selectGood}
 use Rattle.rs232c.specs.Replies.{frameOf, bytesOf, biasBits, sensed, replyTo, turned, turnOf}
 
 -- * `02 03 01 41 6E 4D` at start: `02 04 41 01 7E 01 3B`

@@ -1,9 +1,10 @@
-pub mod Back
+pub mod AskedBack
 mod Codes
 mod Decode
 pub mod Determined
 mod Examples
-pub mod Kept
+pub mod Validity
 mod Signed
 mod Switches
-pub mod Told
+pub mod Refusals
+pub mod Stays

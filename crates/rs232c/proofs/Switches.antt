@@ -11,7 +11,8 @@ use borrow.Author.Tests.{eqb-true, eqb-false, eq-eqb, ne-eqb}
 use Rattle.laws.specs.Lists.{every, listed}
 use Rattle.laws.proofs.Conditions.{false-true, and-first, and-second, and-both}
 use Rattle.panels.specs.Records.{connectors}
-use Rattle.rs232c.specs.Orders.{placeIn, placeOf, connectorOf, actOf, selectGood, turnedOff}
+use Rattle.rs232c.specs.Orders.{placeIn, placeOf, turnedOff}
+use Rattle.rs232c_asks.specs.Commands.{connectorOf, actOf, selectGood}
 
 -- a listed code has its place in the table
 place-in : (cs : List ℕ) (code : ℕ) → listed cs code ≡ true → placeIn cs code < length cs

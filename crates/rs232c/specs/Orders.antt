@@ -1,17 +1,18 @@
 -- Document 01, "RS-232C (002, 004)": the commands, and what each does to a W panel's record.
 use Prim.Native.Nat.{ℕ, zero, suc, _-_, _/_, _%_}
-use mathlib.Core.Bool.{Bool, true, false, cond, _&&_}
+use mathlib.Core.Bool.{cond}
 use mathlib.Core.List.{List, [], _∷_}
 use lib.Dec.{eqb, ltb}
 use lib.ListN.{getD, take, drop, set, replicate}
 use lib.IntN.{ℤ, pos, negsuc}
-use Rattle.laws.specs.Lists.{every, listed}
-use Rattle.panels.specs.Records.{connectors, presets}
+use Rattle.laws.specs.Lists.{every}
+use Rattle.panels.specs.Records.{connectors}
 use Rattle.panels.specs.declared.Inputs.{Inputs}
 use Rattle.panels.specs.declared.Balance.{Balance}
 use Rattle.panels.specs.declared.WRecord.{WRecord}
-use Rattle.rs232c.specs.declared.Order.{Order}
-use Rattle.rs232c.specs.declared.Order.the-variants.{Config, Select, Levels, Sense, Remote}
+use Rattle.rs232c_asks.specs.declared.Order.{Order}
+use Rattle.rs232c_asks.specs.declared.Order.the-variants.{Config, Select, Levels, Sense, Remote}
+use Rattle.rs232c_asks.specs.Commands.{connectorMarked, presetMarked, connectorOf, presetOf, actOf}
 
 abbrev pub withInputs : WRecord → Inputs → WRecord
 withInputs w i = record { settings = w .settings; shifts = w .shifts; spare = w .spare; inputs = i; balance = w .balance }
@@ -27,29 +28,6 @@ placeIn (c ∷ cs) code = cond (eqb code c) 0 (suc (placeIn cs code))
 unfoldable pub placeOf : ℕ → ℕ
 placeOf code = placeIn connectors code
 
--- ---- 21h: "First: bit 0 connector, bit 1 preset white balance (house). Second: connector in bits 0 to 3, preset in bits 4 to 6."
-abbrev pub connectorMarked : ℕ → Bool
-connectorMarked marks = eqb (marks % 2) 1
-
-abbrev pub presetMarked : ℕ → Bool
-presetMarked marks = eqb (marks / 2 % 2) 1
-
-abbrev pub connectorOf : ℕ → ℕ
-connectorOf byte = byte % 16
-
-abbrev pub presetOf : ℕ → ℕ
-presetOf byte = byte / 16 % 8
-
--- "A part not marked is neither checked nor applied. [..] A marked code not listed: 6."
-unfoldable pub connectorGood : ℕ → ℕ → Bool
-connectorGood marks byte = cond (connectorMarked marks) (listed connectors (connectorOf byte)) true
-
-unfoldable pub presetGood : ℕ → ℕ → Bool
-presetGood marks byte = cond (presetMarked marks) (listed presets (presetOf byte)) true
-
-unfoldable pub configGood : ℕ → ℕ → Bool
-configGood marks byte = connectorGood marks byte && presetGood marks byte
-
 -- "A connector that is OFF is ignored"
 unfoldable pub usedAfter : ℕ → ℕ → Inputs → ℕ
 usedAfter marks byte i =
@@ -61,14 +39,6 @@ presetAfter marks byte i = cond (presetMarked marks) (presetOf byte) (i .preset)
 
 abbrev pub configuredBy : ℕ → ℕ → Inputs → Inputs
 configuredBy marks byte i = record { used = usedAfter marks byte i; preset = presetAfter marks byte i; on = i .on }
-
--- ---- 22h: "Connector in bits 0 to 3, act in bits 4 and 5 (house): 1 OFF, 2 ON, 3 ALL RESET"
-abbrev pub actOf : ℕ → ℕ
-actOf byte = byte / 16 % 4
-
--- "Act 0, or an unlisted connector with act 1 or 2: 6."; ALL RESET "with no look at the connector"
-unfoldable pub selectGood : ℕ → Bool
-selectGood byte = cond (eqb (actOf byte) 3) true (cond (eqb (actOf byte) 0) false (listed connectors (connectorOf byte)))
 
 -- 002 and 004, Input Select: OFF for the only connector that is ON is ignored, so that one stays ON
 unfoldable pub turnedOff : List ℕ → ℕ → List ℕ

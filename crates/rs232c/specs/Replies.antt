@@ -6,17 +6,18 @@ use lib.Dec.{eqb}
 use lib.ListN.{length, getD}
 use lib.IntN.{ℤ, pos, negsuc}
 use Rattle.sums.specs.Sums.{sumOf}
-use Rattle.terms.specs.declared.Answer.the-variants.{Done, EnvelopeWrong, NotUnderstood}
+use Rattle.terms.specs.declared.Answer.the-variants.{Done, EnvelopeWrong}
+use Rattle.terms.specs.declared.Answer.the-variants as answers
 use Rattle.turns.specs.Turns.{Turn, left}
 use Rattle.panels.specs.declared.Balance.{Balance}
 use Rattle.panels.specs.declared.WRecord.{WRecord}
-use Rattle.rs232c.specs.Frames.{heardOf, valuesOf}
+use Rattle.rs232c_asks.specs.Asks.{heardOf, valuesOf}
 use Rattle.rs232c.specs.Orders.{carried}
 use Rattle.rs232c.specs.declared.Three.{Three}
-use Rattle.rs232c.specs.declared.Order.{Order}
-use Rattle.rs232c.specs.declared.Order.the-variants.{Config, Select, Levels, Sense, Remote}
-use Rattle.rs232c.specs.declared.Heard.{Heard}
-use Rattle.rs232c.specs.declared.Heard.the-variants.{Refused, Broken, Strange, Understood}
+use Rattle.rs232c_asks.specs.declared.Order.{Order}
+use Rattle.rs232c_asks.specs.declared.Order.the-variants.{Config, Select, Levels, Sense, Remote}
+use Rattle.rs232c_asks.specs.declared.Heard.{Heard}
+use Rattle.rs232c_asks.specs.declared.Heard.the-variants.{Refused, Broken, NotUnderstood, Understood}
 use Rattle.rs232c.specs.declared.Reply.{Reply}
 use Rattle.rs232c.specs.declared.Reply.the-variants.{Silent, Ack, Nak, State, Balances}
 
@@ -75,7 +76,7 @@ replyTo source Remote w = State source (remoteOf w)
 unfoldable pub turned : Heard → List ℕ → WRecord → Turn WRecord
 turned (Refused a) vs w = left w a
 turned (Broken source) vs w = record { after = w; answer = EnvelopeWrong; reply = bytesOf (Nak source) }
-turned (Strange source) vs w = record { after = w; answer = NotUnderstood; reply = bytesOf (Nak source) }
+turned (NotUnderstood source) vs w = record { after = w; answer = answers.NotUnderstood; reply = bytesOf (Nak source) }
 turned (Understood source o) vs w = record { after = carried o vs w; answer = Done; reply = bytesOf (replyTo source o w) }
 
 abbrev pub turnOf : List ℕ → WRecord → Turn WRecord

@@ -1,50 +1,26 @@
-// RS-232C: one frame to one W panel (document 01, "RS-232C (002, 004)").
+// RS-232C: what a W panel does with a frame, and what goes back (document 01, "RS-232C (002, 004)").
 use octets::byte_at;
-use octets::is_listed;
 use octets::lay;
 use panels::Balance;
 use panels::Inputs;
 use panels::WRecord;
 use sums::sum_of;
-use sums::sums_to_zero;
 use terms::Answer;
 ghost use mathlib.Core.Path.{_≡_};
 ghost use Prim.Native.Nat.{_≤_};
-ghost use lib.Count.{ones};
 ghost use lib.Dec.{eqb};
 ghost use lib.ListN.{length, getD, take, drop};
 ghost use Rattle.laws.specs.Bytes.{Sent};
-ghost use Rattle.laws.specs.Lists.{every, listed};
-ghost use Rattle.panels.specs.Records.{connectors, presets};
+ghost use Rattle.laws.specs.Lists.{every};
+ghost use Rattle.panels.specs.Records.{connectors};
 ghost use Rattle.turns.specs.Turns.{Takes};
-ghost use Rattle.rs232c.specs.Frames.{isForeign, isBroken, configCommand, selectCommand, levelsCommand, senseCommand, commandOf, heardOf, valuesOf};
-ghost use Rattle.rs232c.specs.Orders.{placeOf, connectorGood, presetGood, configGood, usedAfter, presetAfter, selectGood, turnedOff, onAfter, gainOf, biasOf, said, put, decode, puts, configuredBy, selectedBy, balancedBy, carried};
+ghost use Rattle.rs232c_asks.specs.Asks.{valuesOf};
+ghost use Rattle.rs232c.specs.Orders.{placeOf, usedAfter, presetAfter, turnedOff, onAfter, gainOf, biasOf, said, put, decode, puts, configuredBy, selectedBy, balancedBy, carried};
 ghost use Rattle.rs232c.specs.Replies.{frameOf, balancesBlock, bytesOf, biasBits, sensed, replyTo, turnOf};
-
-// What a command block orders.
-pub enum Order {
-    // 21h: the marks, and the codes of connector and preset
-    Config(u8, u8),
-    // 22h: the connector and the act
-    Select(u8),
-    // 40h: the mask; its values stand behind it in the frame
-    Levels(u8),
-    // 61h: 1 gains, 2 biases
-    Sense(u8),
-    // 6Eh
-    Remote,
-}
-
-// What a message asks. The number is the source, to which the reply goes.
-pub enum Heard {
-    // 3 and 4: no reply
-    Refused(Answer),
-    // 5
-    Broken(u8),
-    // 6
-    Strange(u8),
-    Understood(u8, Order),
-}
+use octets::ones_of;
+use rs232c_asks::Heard;
+use rs232c_asks::Order;
+use rs232c_asks::hear;
 
 // Three numbers: R, G, B.
 pub struct Three {
@@ -63,43 +39,10 @@ pub enum Reply {
 }
 
 // What a message did: the record after it, the answer, and the reply's length.
-pub struct Taken {
-    pub w: WRecord,
+pub struct Outcome {
+    pub after: WRecord,
     pub answer: Answer,
     pub len: usize,
-}
-
-// First byte, destination and source.
-fn is_foreign(m: &[u8]) -> bool
-    ensures { λ r. ⌜ r ≡ isForeign (now (m .entry)) ⌝ }
-{
-    if byte_at(m, 0) != 2 {
-        return true;
-    }
-    if byte_at(m, 2) != 1 {
-        return true;
-    }
-    let source = byte_at(m, 3);
-    if source < 0x41 {
-        return true;
-    }
-    0x7F < source
-}
-
-// Byte count and checksum.
-fn is_broken(m: &[u8]) -> bool
-    requires { ⌜ 6 ≤ length (now m) ⌝ }
-    ensures { λ r. ⌜ r ≡ isBroken (now (m .entry)) ⌝ }
-{
-    let count = byte_at(m, 1) as usize;
-    if count + 3 != m.len() {
-        return true;
-    }
-    let summed = &m[1..];
-    if sums_to_zero(summed) {
-        return false;
-    }
-    true
 }
 
 // Where a connector stands in the table of codes.
@@ -115,50 +58,6 @@ fn place_of(code: u8) -> usize
         i += 1;
     }
     i
-}
-
-fn is_connector(code: u8) -> bool
-    ensures { λ r. ⌜ r ≡ listed connectors code ⌝ }
-{
-    let connectors = [0u8, 2, 4, 5, 6, 7, 8, 9, 10, 11];
-    is_listed(&connectors, code)
-}
-
-fn is_preset(code: u8) -> bool
-    ensures { λ r. ⌜ r ≡ listed presets code ⌝ }
-{
-    let presets = [0u8, 2, 3];
-    is_listed(&presets, code)
-}
-
-// 21h: the connector's code is listed, where it is marked.
-fn connector_good(marks: u8, byte: u8) -> bool
-    ensures { λ r. ⌜ r ≡ connectorGood marks byte ⌝ }
-{
-    if marks % 2 != 1 {
-        return true;
-    }
-    is_connector(byte % 16)
-}
-
-// 21h: the preset's code is listed, where it is marked.
-fn preset_good(marks: u8, byte: u8) -> bool
-    ensures { λ r. ⌜ r ≡ presetGood marks byte ⌝ }
-{
-    if marks / 2 % 2 != 1 {
-        return true;
-    }
-    is_preset(byte / 16 % 8)
-}
-
-// 21h: both parts.
-fn config_good(marks: u8, byte: u8) -> bool
-    ensures { λ r. ⌜ r ≡ configGood marks byte ⌝ }
-{
-    if !connector_good(marks, byte) {
-        return false;
-    }
-    preset_good(marks, byte)
 }
 
 // 21h: the connector in use afterwards.
@@ -183,20 +82,6 @@ fn preset_after(marks: u8, byte: u8, i: Inputs) -> u8
         return i.preset;
     }
     byte / 16 % 8
-}
-
-// 22h: an act, with a listed connector where the act looks at it.
-fn select_good(byte: u8) -> bool
-    ensures { λ r. ⌜ r ≡ selectGood byte ⌝ }
-{
-    let act = byte / 16 % 4;
-    if act == 3 {
-        return true;
-    }
-    if act == 0 {
-        return false;
-    }
-    is_connector(byte % 16)
 }
 
 // 22h OFF: ignored where it would leave no connector ON.
@@ -247,13 +132,6 @@ fn on_after(byte: u8, on: [u8; 10]) -> [u8; 10]
     let mut next = on;
     next[place] = 1;
     next
-}
-
-// The number of ones in a byte.
-fn ones_of(x: u8) -> usize
-    ensures { λ r. ⌜ (r ≡ ones x) × (r ≤ 8) ⌝ }
-{
-    u8::count_ones(x) as usize
 }
 
 // 40h: value j of those that follow the mask, low byte first.
@@ -432,103 +310,6 @@ fn reply_to(source: u8, o: Order, w: WRecord) -> Reply
     }
 }
 
-// The command, by its code and its number of data bytes.
-fn command_of(source: u8, code: u8, n: usize, first: u8, second: u8) -> Heard
-    ensures { λ r. ⌜ r ≡ commandOf source code n first second ⌝ }
-{
-    if code == 0x21 {
-        return config_command(source, n, first, second);
-    }
-    if code == 0x22 {
-        return select_command(source, n, first);
-    }
-    if code == 0x40 {
-        return levels_command(source, n, first);
-    }
-    if code == 0x61 {
-        return sense_command(source, n, first);
-    }
-    if code != 0x6E {
-        return Heard::Strange(source);
-    }
-    if n != 0 {
-        return Heard::Strange(source);
-    }
-    Heard::Understood(source, Order::Remote)
-}
-
-fn config_command(source: u8, n: usize, first: u8, second: u8) -> Heard
-    ensures { λ r. ⌜ r ≡ configCommand source n first second ⌝ }
-{
-    if n != 2 {
-        return Heard::Strange(source);
-    }
-    if !config_good(first, second) {
-        return Heard::Strange(source);
-    }
-    Heard::Understood(source, Order::Config(first, second))
-}
-
-fn select_command(source: u8, n: usize, first: u8) -> Heard
-    ensures { λ r. ⌜ r ≡ selectCommand source n first ⌝ }
-{
-    if n != 1 {
-        return Heard::Strange(source);
-    }
-    if !select_good(first) {
-        return Heard::Strange(source);
-    }
-    Heard::Understood(source, Order::Select(first))
-}
-
-// The count of ones in the mask fixes the number of data bytes, before anything is applied.
-fn levels_command(source: u8, n: usize, first: u8) -> Heard
-    ensures { λ r. ⌜ r ≡ levelsCommand source n first ⌝ }
-{
-    if n != 1 + 2 * ones_of(first % 64) {
-        return Heard::Strange(source);
-    }
-    Heard::Understood(source, Order::Levels(first))
-}
-
-fn sense_command(source: u8, n: usize, first: u8) -> Heard
-    ensures { λ r. ⌜ r ≡ senseCommand source n first ⌝ }
-{
-    if n != 1 {
-        return Heard::Strange(source);
-    }
-    if first == 1 {
-        return Heard::Understood(source, Order::Sense(first));
-    }
-    if first != 2 {
-        return Heard::Strange(source);
-    }
-    Heard::Understood(source, Order::Sense(first))
-}
-
-// What a message asks.
-fn hear(m: &[u8]) -> Heard
-    ensures { λ r. ⌜ r ≡ heardOf (now (m .entry)) ⌝ }
-{
-    if m.len() < 6 {
-        return Heard::Refused(Answer::WrongLength);
-    }
-    if is_foreign(m) {
-        return Heard::Refused(Answer::NotForUs);
-    }
-    let source = byte_at(m, 3);
-    if is_broken(m) {
-        return Heard::Broken(source);
-    }
-    command_of(
-        source,
-        byte_at(m, 4),
-        m.len() - 6,
-        byte_at(m, 5),
-        byte_at(m, 6),
-    )
-}
-
 // A frame around a block: the byte count, both addresses and the checksum.
 fn put_frame(to: u8, block: &[u8], area: &mut [u8]) -> usize
     requires { ⌜ length (now block) ≤ 8 ⌝ }
@@ -580,31 +361,35 @@ fn send(reply: Reply, area: &mut [u8]) -> usize
 }
 
 // A frame on the RS-232C port of a W panel.
-pub fn take_frame(w: WRecord, m: &[u8], area: &mut [u8]) -> Taken
-    ensures { λ r. ⌜ Takes (turnOf (now (m .entry))) w (now (area .entry)) (r .w) (r .answer) (r .len) (now (area .exit)) ⌝ }
+pub fn take_frame(w: WRecord, m: &[u8], area: &mut [u8]) -> Outcome
+    ensures { λ r. ⌜ Takes (turnOf (now (m .entry))) w (now (area .entry)) (r .after) (r .answer) (r .len) (now (area .exit)) ⌝ }
 {
     if area.len() < 512 {
-        return Taken {
-            w,
+        return Outcome {
+            after: w,
             answer: Answer::AreaTooSmall,
             len: 0,
         };
     }
     let ask = hear(m);
     match ask {
-        Heard::Refused(answer) => Taken { w, answer, len: 0 },
+        Heard::Refused(answer) => Outcome {
+            after: w,
+            answer,
+            len: 0,
+        },
         Heard::Broken(source) => {
             let len = send(Reply::Nak(source), area);
-            Taken {
-                w,
+            Outcome {
+                after: w,
                 answer: Answer::EnvelopeWrong,
                 len,
             }
         }
-        Heard::Strange(source) => {
+        Heard::NotUnderstood(source) => {
             let len = send(Reply::Nak(source), area);
-            Taken {
-                w,
+            Outcome {
+                after: w,
                 answer: Answer::NotUnderstood,
                 len,
             }
@@ -613,8 +398,8 @@ pub fn take_frame(w: WRecord, m: &[u8], area: &mut [u8]) -> Taken
             let next = carry(o, m, w);
             let reply = reply_to(source, o, w);
             let len = send(reply, area);
-            Taken {
-                w: next,
+            Outcome {
+                after: next,
                 answer: Answer::Done,
                 len,
             }

@@ -2,9 +2,9 @@
 use mathlib.Core.List.{List}
 use Prim.Native.Nat.{ℕ}
 use Rattle.panels.specs.declared.DisplayBox.{DisplayBox}
-use Rattle.orders.specs.Answers.{Answers, answered}
-use Rattle.orders.specs.declared.Answered.{Answered}
-use Rattle.orders.proofs.Determined.{Agree, answers-one}
+use Rattle.script_orders.specs.Answers.{Answers, answered}
+use Rattle.script_orders.specs.declared.Answered.{Answered}
+use Rattle.script_orders.proofs.Determined.{Agree, answers-one}
 
 pub answer-line-one : (b : DisplayBox) (line area : List ℕ) (r r′ : Answered) (x x′ : List ℕ) → Answers (answered b line) r area x → Answers (answered b line) r′ area x′ → Agree r r′ x x′
 answer-line-one b line area r r′ x x′ = answers-one (answered b line) area r r′ x x′

@@ -2,16 +2,17 @@
 use mathlib.Core.Path.{_≡_, refl}
 use mathlib.Core.List.{[], _∷_, _++_}
 use Rattle.laws.specs.Bytes.{ascii}
-use Rattle.numbers.specs.Decimals.{isDigit, decimal, leadsZero, isNumeral, upTo, inDigits}
-use Rattle.numbers.specs.Plain.{widthFrom, width, plain}
+use Rattle.decimals.specs.Decimals.{isDigit, decimal, leadsZero, isNumeral, upTo, inDigits}
+use Rattle.decimals.specs.Plain.{widthFrom, width, plain}
 use Rattle.sums.specs.Sums.{sumOf}
 use Rattle.panels.specs.Records.{noBox}
-use Rattle.panels.specs.Configure.{askedAt, asked, configured}
+use Rattle.configure.specs.Configure.{askedAt, asked, configured}
 use Rattle.panels.specs.Valid.{zeroIds, okPanel, valid}
-use Rattle.lines.specs.Words.{words, numberAt, isHexDigit, hexValue, isHex, bytesIn, bytesAt}
-use Rattle.lines.specs.Orders.{isFamily, isKind, shaped, asks, panelKinds, panelsIn, asksBox, configuration, configurationOf, orderIn, isPassedOver, orderOf}
-use Rattle.texts.specs.Texts.{said}
-use Rattle.orders.specs.Answers.{writes, boxed, isThere, shownAt, summed, ordered, answered}
+use Rattle.script_words.specs.Words.{words, numberAt, isHexDigit, hexValue, isHex, bytesIn, bytesAt}
+use Rattle.script_words.specs.Kinds.{isFamily, isKind, shaped}
+use Rattle.script_lines.specs.Orders.{asks, panelKinds, panelsIn, asksBox, configuration, configurationOf, orderIn, isPassedOver, orderOf}
+use Rattle.script_text.specs.Texts.{numberText}
+use Rattle.script_orders.specs.Answers.{writes, boxed, isThere, shownAt, summed, ordered, answered}
 
 passed : answered noBox (ascii "# a remark") ≡ record { box = noBox; text = [] }
 unfolding answered ordered orderOf isPassedOver
@@ -30,5 +31,5 @@ unfolding answered ordered orderOf isPassedOver asksBox panelsIn words asks orde
 nothing-there = refl
 
 bad-box : answered noBox (ascii "box K 0 1") ≡ record { box = noBox; text = ascii "box 7" ++ (0x0a ∷ []) }
-unfolding answered ordered orderOf isPassedOver asksBox panelsIn panelKinds words asks orderIn shaped isKind isFamily isNumeral leadsZero upTo isDigit decimal numberAt writes boxed configurationOf configuration configured asked askedAt valid okPanel zeroIds said plain width widthFrom inDigits
+unfolding answered ordered orderOf isPassedOver asksBox panelsIn panelKinds words asks orderIn shaped isKind isFamily isNumeral leadsZero upTo isDigit decimal numberAt writes boxed configurationOf configuration configured asked askedAt valid okPanel zeroIds numberText plain width widthFrom inDigits
 bad-box = refl

@@ -1,18 +1,18 @@
 // What a line of a script does to the box, and what it writes: the order that the line is, carried out (docs/SCRIPTS.md).
-use lines::Order;
-use lines::order_of;
-use orders::Answered;
-use orders::Way;
-use orders::answer_advert;
-use orders::answer_box;
-use orders::answer_message;
-use orders::answer_show;
-use orders::answer_sum;
-use orders::answer_udp;
-use orders::answer_write;
-use orders::say;
 use panels::DisplayBox;
-ghost use Rattle.orders.specs.Answers.{Answers, answered};
+use script_lines::Order;
+use script_lines::order_of;
+use script_orders::Answered;
+use script_orders::Way;
+use script_orders::answer_advert;
+use script_orders::answer_box;
+use script_orders::answer_message;
+use script_orders::answer_show;
+use script_orders::answer_sum;
+use script_orders::answer_udp;
+use script_orders::answer_write;
+use script_orders::say;
+ghost use Rattle.script_orders.specs.Answers.{Answers, answered};
 
 // A line: what it does to the box, and its text at the front of an area.
 pub fn answer_line(b: DisplayBox, line: &[u8], out: &mut [u8]) -> Answered

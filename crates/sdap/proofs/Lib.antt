@@ -1,6 +1,6 @@
 pub mod Accepted
 pub mod Determined
 mod Examples
-mod Lengths
+pub mod Lengths
 pub mod Round
 pub mod Texts

@@ -1,4 +1,4 @@
 pub mod Determined
 mod Examples
 mod Packets
-pub mod Told
+pub mod Refusals

@@ -13,13 +13,13 @@ use Rattle.laws.proofs.Areas.{laid-first, laid-more, over-front}
 use Rattle.laws.proofs.Lists.{part-from, part-length}
 use Rattle.laws.proofs.Numbers.{length-in-bytes}
 use Rattle.terms.specs.declared.Answer.the-variants.{WrongLength, NotForUs}
-use Rattle.vmc.specs.Reading.{readData}
-use Rattle.vmc.specs.declared.Words.{Words}
-use Rattle.vmc.specs.declared.Words.the-variants.{Understood as UnderstoodWords, Strange as StrangeWords}
-use Rattle.sdcp_asks.specs.Packets.{isOurs, isBroken, inWords, dataOf, heardOf}
+use Rattle.vmc_asks.specs.Asks.{readData}
+use Rattle.vmc_asks.specs.declared.Words.{Words}
+use Rattle.vmc_asks.specs.declared.Words.the-variants.{Understood as UnderstoodWords, NotUnderstood as NotUnderstoodWords}
+use Rattle.sdcp_asks.specs.Asks.{isOurs, isBroken, inWords, dataOf, heardOf}
 use Rattle.sdcp.specs.Replies.{packetOf}
 use Rattle.sdcp_asks.specs.declared.Heard.{Heard}
-use Rattle.sdcp_asks.specs.declared.Heard.the-variants.{Refused, Broken, Strange, Understood}
+use Rattle.sdcp_asks.specs.declared.Heard.the-variants.{Refused, Broken, NotUnderstood, Understood}
 
 two : (l : List ℕ) → length l ≡ 2 → getD l 0 0 ∷ getD l 1 0 ∷ [] ≡ l
 two [] e = absurd (omega arith)
@@ -63,7 +63,7 @@ sends m code size body area x y z h k r e p q s =
 abbrev pub Long : List ℕ → Heard → Type 0
 Long m (Refused a) = Unit {0}
 Long m Broken = 13 ≤ length m
-Long m Strange = 13 ≤ length m
+Long m NotUnderstood = 13 ≤ length m
 Long m (Understood o) = 13 ≤ length m
 
 pub heard-long : (m : List ℕ) → Long m (heardOf m)
@@ -72,7 +72,7 @@ heard-long m = short (ltb (length m) 13) refl
   where
     words : (x : Words) → 13 ≤ length m → Long m (inWords x)
     words (UnderstoodWords o) h = h
-    words StrangeWords h = h
+    words NotUnderstoodWords h = h
 
     broken : (b : Bool) → 13 ≤ length m → Long m (cond b Broken (inWords (readData (dataOf m))))
     broken true h = h

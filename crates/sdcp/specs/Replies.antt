@@ -5,15 +5,16 @@ use lib.ListN.{length}
 use Rattle.laws.specs.Bytes.{part}
 use Rattle.laws.specs.Numbers.{inBytes}
 use Rattle.terms.specs.declared.Answer.{Answer}
-use Rattle.terms.specs.declared.Answer.the-variants.{Done, EnvelopeWrong, NotUnderstood}
+use Rattle.terms.specs.declared.Answer.the-variants.{Done, EnvelopeWrong}
+use Rattle.terms.specs.declared.Answer.the-variants as answers
 use Rattle.turns.specs.Turns.{Turn, left}
 use Rattle.panels.specs.declared.WRecord.{WRecord}
-use Rattle.vmc.specs.Orders.{carried, toldOf}
-use Rattle.vmc.specs.Texts.{textOf}
-use Rattle.vmc.specs.declared.Told.the-variants.{Bare}
-use Rattle.sdcp_asks.specs.Packets.{heardOf}
+use Rattle.vmc.specs.Orders.{carried, saysOf}
+use Rattle.vmc_tells.specs.Texts.{textOf}
+use Rattle.vmc_tells.specs.declared.Says.the-variants.{Bare}
+use Rattle.sdcp_asks.specs.Asks.{heardOf}
 use Rattle.sdcp_asks.specs.declared.Heard.{Heard}
-use Rattle.sdcp_asks.specs.declared.Heard.the-variants.{Refused, Broken, Strange, Understood}
+use Rattle.sdcp_asks.specs.declared.Heard.the-variants.{Refused, Broken, NotUnderstood, Understood}
 use Rattle.sdcp.specs.declared.Reply.{Reply}
 use Rattle.sdcp.specs.declared.Reply.the-variants.{Silent, Ng, Ok}
 
@@ -32,15 +33,15 @@ bytesOf m (Ok told) = packetOf m 0x01 (textOf told)
 abbrev pub answerOf : Heard → Answer
 answerOf (Refused a) = a
 answerOf Broken = EnvelopeWrong
-answerOf Strange = NotUnderstood
+answerOf NotUnderstood = answers.NotUnderstood
 answerOf (Understood o) = Done
 
 -- what a packet does to the panel that it is addressed to; 5 is "SDCP NG by TCP", 6 "SDCP OK with no data by TCP"
 unfoldable pub turned : List ℕ → Heard → WRecord → Turn WRecord
 turned m (Refused a) w = left w a
 turned m Broken w = record { after = w; answer = EnvelopeWrong; reply = bytesOf m Ng }
-turned m Strange w = record { after = w; answer = NotUnderstood; reply = bytesOf m (Ok Bare) }
-turned m (Understood o) w = record { after = carried o w; answer = Done; reply = bytesOf m (Ok (toldOf o w)) }
+turned m NotUnderstood w = record { after = w; answer = answers.NotUnderstood; reply = bytesOf m (Ok Bare) }
+turned m (Understood o) w = record { after = carried o w; answer = Done; reply = bytesOf m (Ok (saysOf o w)) }
 
 abbrev pub turnOf : List ℕ → WRecord → Turn WRecord
 turnOf m = turned m (heardOf m)

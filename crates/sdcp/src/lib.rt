@@ -5,10 +5,10 @@ use panels::WRecord;
 use sdcp_asks::Heard;
 use sdcp_asks::hear;
 use terms::Answer;
-use vmc::Told;
 use vmc::obey;
-use vmc::spell;
 use vmc::tell;
+use vmc_tells::Says;
+use vmc_tells::spell;
 ghost use Prim.Native.Nat.{_≤_};
 ghost use lib.ListN.{length};
 ghost use Rattle.laws.specs.Bytes.{Sent};
@@ -19,12 +19,12 @@ ghost use Rattle.sdcp.specs.Replies.{packetOf, bytesOf, turnOf};
 pub enum Reply {
     Silent,
     Ng,
-    Ok(Told),
+    Ok(Says),
 }
 
 // What a packet did: the record after it, the answer, and the reply's length.
-pub struct Taken {
-    pub w: WRecord,
+pub struct Outcome {
+    pub after: WRecord,
     pub answer: Answer,
     pub len: usize,
 }
@@ -44,7 +44,7 @@ fn put_packet(m: &[u8], code: u8, body: &[u8], area: &mut [u8]) -> usize
 }
 
 // What is told, as an OK packet.
-fn put_ok(m: &[u8], told: Told, area: &mut [u8]) -> usize
+fn put_ok(m: &[u8], told: Says, area: &mut [u8]) -> usize
     requires { ⌜ (13 ≤ length (now m)) × (512 ≤ length (now area)) ⌝ }
     ensures { λ r. ⌜ Sent (bytesOf (now (m .entry)) (Reply.Ok told)) r (now (area .entry)) (now (area .exit)) ⌝ }
 {
@@ -55,31 +55,35 @@ fn put_ok(m: &[u8], told: Told, area: &mut [u8]) -> usize
 }
 
 // A packet for a W panel, by TCP.
-pub fn take_packet(w: WRecord, m: &[u8], area: &mut [u8]) -> Taken
-    ensures { λ r. ⌜ Takes (turnOf (now (m .entry))) w (now (area .entry)) (r .w) (r .answer) (r .len) (now (area .exit)) ⌝ }
+pub fn take_packet(w: WRecord, m: &[u8], area: &mut [u8]) -> Outcome
+    ensures { λ r. ⌜ Takes (turnOf (now (m .entry))) w (now (area .entry)) (r .after) (r .answer) (r .len) (now (area .exit)) ⌝ }
 {
     if area.len() < 512 {
-        return Taken {
-            w,
+        return Outcome {
+            after: w,
             answer: Answer::AreaTooSmall,
             len: 0,
         };
     }
     let ask = hear(m);
     match ask {
-        Heard::Refused(answer) => Taken { w, answer, len: 0 },
+        Heard::Refused(answer) => Outcome {
+            after: w,
+            answer,
+            len: 0,
+        },
         Heard::Broken => {
             let len = put_packet(m, 0, b"\xF0\x50", area);
-            Taken {
-                w,
+            Outcome {
+                after: w,
                 answer: Answer::EnvelopeWrong,
                 len,
             }
         }
-        Heard::Strange => {
-            let len = put_ok(m, Told::Bare, area);
-            Taken {
-                w,
+        Heard::NotUnderstood => {
+            let len = put_ok(m, Says::Bare, area);
+            Outcome {
+                after: w,
                 answer: Answer::NotUnderstood,
                 len,
             }
@@ -88,8 +92,8 @@ pub fn take_packet(w: WRecord, m: &[u8], area: &mut [u8]) -> Taken
             let next = obey(w, o);
             let told = tell(w, o);
             let len = put_ok(m, told, area);
-            Taken {
-                w: next,
+            Outcome {
+                after: next,
                 answer: Answer::Done,
                 len,
             }

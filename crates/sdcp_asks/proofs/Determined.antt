@@ -3,7 +3,7 @@ use mathlib.Core.Path.{_≡_, sym, _∙_}
 use mathlib.Core.Bool.{Bool}
 use mathlib.Core.List.{List}
 use Prim.Native.Nat.{ℕ}
-use Rattle.sdcp_asks.specs.Packets.{isOurs, heardOf}
+use Rattle.sdcp_asks.specs.Asks.{isOurs, heardOf}
 use Rattle.sdcp_asks.specs.declared.Heard.{Heard}
 
 pub is-ours-one : (m : List ℕ) (r r′ : Bool) → r ≡ isOurs m → r′ ≡ isOurs m → r ≡ r′

@@ -3,13 +3,13 @@ use octets::begins_with;
 use octets::byte_at;
 use octets::number2;
 use terms::Answer;
-use vmc::Order;
-use vmc::Words;
-use vmc::read_data;
+use vmc_asks::Order;
+use vmc_asks::Words;
+use vmc_asks::read_data;
 ghost use mathlib.Core.Path.{_≡_};
 ghost use Prim.Native.Nat.{_≤_};
 ghost use lib.ListN.{length};
-ghost use Rattle.sdcp_asks.specs.Packets.{isOurs, isBroken, inWords, heardOf, dataOf};
+ghost use Rattle.sdcp_asks.specs.Asks.{isOurs, isBroken, inWords, heardOf, dataOf};
 
 // What a packet asks, whoever is addressed.
 pub enum Heard {
@@ -18,7 +18,7 @@ pub enum Heard {
     // 5
     Broken,
     // 6
-    Strange,
+    NotUnderstood,
     Understood(Order),
 }
 
@@ -61,7 +61,7 @@ pub fn hear(m: &[u8]) -> Heard
         return Heard::Broken;
     }
     let Words::Understood(o) = read_data(&m[13..]) else {
-        return Heard::Strange;
+        return Heard::NotUnderstood;
     };
     Heard::Understood(o)
 }

@@ -18,12 +18,12 @@ use Rattle.panels.specs.Records.{familyW, familyK}
 use Rattle.panels.specs.Valid.{okPanel, distinct, inUse, valid}
 use Rattle.panels.specs.declared.Panel.{Panel}
 use Rattle.panels.specs.declared.DisplayBox.{DisplayBox}
-use Rattle.sdcp_asks.specs.Packets.{front, isOurs, groupOf, unitOf}
+use Rattle.sdcp_asks.specs.Asks.{front, isOurs, groupOf, unitOf}
 use Rattle.steps.specs.Messages.{rs232c, kjw, tcp, udp, Name, nobody, aW, aK, nameOf, names, isW}
 use Rattle.steps.specs.Addressing.{hasIds, isId, isPair, pairNumber, byTcp, target, isCalled, addressed}
 use Rattle.steps.specs.Step.{panelAt}
 use Rattle.steps.proofs.Finding.{only-pair}
-use Rattle.steps.proofs.Kept.{valid-names, bad-names, in-use-name}
+use Rattle.steps.proofs.Validity.{valid-names, bad-names, in-use-name}
 
 -- ---- by link
 

@@ -14,19 +14,21 @@ use Rattle.terms.specs.Answers.{numberOf}
 use Rattle.terms.specs.declared.Answer.{Answer}
 use Rattle.terms.specs.declared.Answer.the-variants.{Done}
 use Rattle.turns.specs.Turns.{Turn}
-use Rattle.panels.specs.Configure.{askedAt, asked, refusal, configured}
+use Rattle.configure.specs.Configure.{askedAt, asked, refusal, configured}
 use Rattle.panels.specs.Valid.{inUse, valid}
 use Rattle.panels.specs.declared.Panel.{Panel}
 use Rattle.panels.specs.declared.DisplayBox.{DisplayBox}
-use Rattle.panels.specs.declared.Configured.{Configured}
+use Rattle.configure.specs.declared.Configured.{Configured}
 use Rattle.panels.proofs.Boxes as boxes
+use Rattle.configure.proofs.Boxes as boxesConfigured
+use Rattle.configure.proofs.Boxes as boxesConfigured
 use Rattle.steps.specs.Messages.{Message, rs232c, kjw, tcp, udp, Name, nameOf, names}
 use Rattle.steps.specs.Addressing.{addressed}
 use Rattle.steps.specs.Step.{turn, Back, back, panelAt, ownTurn, answerTo, Outcome, passed, refused, door, step}
 use Rattle.steps.specs.Run.{Got, gotBy, after, run, kept, replies}
 use Rattle.steps.proofs.Door.{opens, at-step}
-use Rattle.steps.proofs.Kept.{places-kept, valid-names, names-kept}
-use Rattle.steps.proofs.Refused.{own-turn, own-answer}
+use Rattle.steps.proofs.Validity.{places-kept, valid-names, names-kept}
+use Rattle.steps.proofs.Refusals.{own-turn, own-answer}
 
 -- what a panel that is addressed becomes, and what goes back for it: its turn, if the door is passed
 abbrev becomes : List Name → Message → Panel → Panel
@@ -100,10 +102,10 @@ eight-places c = choose (λ (r : Configured). length (r .made .panels) ≡ 8) (e
 pub demand-3-configured : (c : List ℕ) (i : ℕ) (ms ms′ : List Message) → i < 8 → kept i (names (configured c .made)) ms ≡ kept i (names (configured c .made)) ms′ → (panelAt i (run (configured c .made) ms) ≡ panelAt i (run (configured c .made) ms′)) × (replies i (configured c .made) ms ≡ replies i (configured c .made) ms′)
 demand-3-configured c i ms ms′ h k = demand-3 (configured c .made) i ms ms′ (rw (eight-places c) h) k
 
-accepted-valid : (r : Configured) → boxes.Outcome r → r .answer ≡ Done → valid (r .made) ≡ true
-accepted-valid _ (boxes.made b v) e = v
-accepted-valid _ boxes.refused e = absurd (let z : 7 ≡ 0 = ap numberOf e in omega arith)
+accepted-valid : (r : Configured) → boxesConfigured.Configures r → r .answer ≡ Done → valid (r .made) ≡ true
+accepted-valid _ (boxesConfigured.made b v) e = v
+accepted-valid _ boxesConfigured.refused e = absurd (let z : 7 ≡ 0 = ap numberOf e in omega arith)
 
 -- where the configuration is accepted, messages are kept by the families and IDs of its panels
 pub configured-names : (c : List ℕ) → configured c .answer ≡ Done → names (configured c .made) ≡ map nameOf (inUse (configured c .made))
-configured-names c e = valid-names (configured c .made) (accepted-valid (configured c) (boxes.outcome c) e)
+configured-names c e = valid-names (configured c .made) (accepted-valid (configured c) (boxesConfigured.outcome c) e)

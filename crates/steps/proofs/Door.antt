@@ -18,10 +18,10 @@ use Rattle.terms.specs.declared.UnitId.{UnitId}
 use Rattle.panels.specs.Records.{pastEnd}
 use Rattle.panels.specs.declared.Panel.{Panel}
 use Rattle.panels.specs.declared.DisplayBox.{DisplayBox}
-use Rattle.sdcp_asks.specs.Packets.{groupOf, unitOf}
+use Rattle.sdcp_asks.specs.Asks.{groupOf, unitOf}
 use Rattle.steps.specs.Messages.{Message, rs232c, kjw, tcp, udp, Name, nobody, aW, aK, names, onLink, isW, isK}
 use Rattle.steps.specs.Addressing.{hasIds, isId, isPair, byTcp, target, isCalled, addressed, pairNumber}
-use Rattle.steps.specs.Step.{lent, toNobody, door, turn, Outcome, panelAt, passed, refused, step}
+use Rattle.steps.specs.Step.{ifOpen, toNobody, door, turn, Outcome, panelAt, passed, refused, step}
 use Rattle.steps.proofs.Finding.{found}
 
 -- checks 1, 2 and 4 are passed
@@ -34,7 +34,7 @@ pub no-link : (l : ℕ) → onLink [] l ≡ nobody
 no-link zero = refl
 no-link (suc l) = refl
 
-lent-shut : (area : List ℕ) (rest : Answer) → eqb (numberOf (lent area false rest)) 0 ≡ false
+lent-shut : (area : List ℕ) (rest : Answer) → eqb (numberOf (ifOpen area false rest)) 0 ≡ false
 lent-shut area rest = choose (λ (a : Answer). eqb (numberOf a) 0 ≡ false) (ltb (length area) 512) AreaTooSmall NoSuchPanel (λ e. refl) (λ e. refl)
 
 pub nobody-shut : (m : List ℕ) → eqb (numberOf (toNobody m)) 0 ≡ false
@@ -63,7 +63,7 @@ nobody-speaks (kjw l m area) = refl
 nobody-speaks (tcp l m area) = refl
 nobody-speaks (udp m) = refl
 
-lent-fits : (area : List ℕ) (fits : Bool) (rest : Answer) → eqb (numberOf (lent area fits rest)) 0 ≡ true → fits ≡ true
+lent-fits : (area : List ℕ) (fits : Bool) (rest : Answer) → eqb (numberOf (ifOpen area fits rest)) 0 ≡ true → fits ≡ true
 lent-fits area true rest e = refl
 lent-fits area false rest e = absurd (false-true (cc (lent-shut area rest)))
 

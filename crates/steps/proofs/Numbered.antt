@@ -19,28 +19,29 @@ use Rattle.panels.specs.declared.Panel.{Panel}
 use Rattle.panels.specs.declared.WRecord.{WRecord}
 use Rattle.panels.specs.declared.KRecord.{KRecord}
 use Rattle.panels.specs.declared.DisplayBox.{DisplayBox}
-use Rattle.vmc.specs.Reading.{readData}
-use Rattle.vmc.specs.declared.Words.{Words}
-use Rattle.vmc.specs.declared.Words.the-variants.{Understood as UnderstoodWords, Strange as StrangeWords}
-use Rattle.rs232c.specs.Frames as serial
-use Rattle.rs232c.specs.Orders.{configGood, selectGood}
+use Rattle.vmc_asks.specs.Asks.{readData}
+use Rattle.vmc_asks.specs.declared.Words.{Words}
+use Rattle.vmc_asks.specs.declared.Words.the-variants.{Understood as UnderstoodWords, NotUnderstood as NotUnderstoodWords}
+use Rattle.rs232c_asks.specs.Asks as serial
+use Rattle.rs232c_asks.specs.Commands.{configGood, selectGood}
 use Rattle.rs232c.specs.Replies as serialReplies
-use Rattle.rs232c.specs.declared.Heard as serialHeard
-use Rattle.rs232c.specs.declared.Heard.the-variants as serialIs
+use Rattle.rs232c_asks.specs.declared.Heard as serialHeard
+use Rattle.rs232c_asks.specs.declared.Heard.the-variants as serialIs
 use Rattle.kjw.specs.Rules as frames
-use Rattle.kjw.specs.Frames.{nameOf, blank, lettersOf, typeControl}
-use Rattle.kjw.specs.declared.State.the-variants.{Power, AudioMute, PictureMute, Volume, Input, Scene}
-use Rattle.kjw.specs.declared.Order as framesOrder
-use Rattle.kjw.specs.declared.Heard as framesHeard
-use Rattle.kjw.specs.declared.Heard.the-variants as framesIs
-use Rattle.sdcp_asks.specs.Packets as packets
+use Rattle.kjw_asks.specs.Asks as framesAsks
+use Rattle.kjw_asks.specs.Frames.{stateLetters, blank, lettersOf, typeControl}
+use Rattle.kjw_asks.specs.declared.State.the-variants.{Power, AudioMute, PictureMute, Volume, Input, Scene}
+use Rattle.kjw_asks.specs.declared.Order as framesOrder
+use Rattle.kjw_asks.specs.declared.Heard as framesHeard
+use Rattle.kjw_asks.specs.declared.Heard.the-variants as framesIs
+use Rattle.sdcp_asks.specs.Asks as packets
 use Rattle.sdcp.specs.Replies as packetReplies
-use Rattle.sdcp.proofs.Told.{turned-answer}
+use Rattle.sdcp.proofs.Refusals.{turned-answer}
 use Rattle.sdcp_asks.specs.declared.Heard as packetsHeard
 use Rattle.sdcp_asks.specs.declared.Heard.the-variants as packetsIs
 use Rattle.steps.specs.Messages.{Message, rs232c, kjw, tcp, udp, Name, names, onLink, isW, isK}
 use Rattle.steps.specs.Addressing.{target, anyCalled}
-use Rattle.steps.specs.Step.{lent, toNobody, door, turn, Outcome, answerTo, step}
+use Rattle.steps.specs.Step.{ifOpen, toNobody, door, turn, Outcome, answerTo, step}
 use Rattle.steps.proofs.Door.{by-door}
 
 -- one of 0 to 6
@@ -51,7 +52,7 @@ Six a = leb (numberOf a) 6 ≡ true
 abbrev SerialMild : serialHeard.Heard → Type 0
 SerialMild (serialIs.Refused a) = Six a
 SerialMild (serialIs.Broken s) = Unit {0}
-SerialMild (serialIs.Strange s) = Unit {0}
+SerialMild (serialIs.NotUnderstood s) = Unit {0}
 SerialMild (serialIs.Understood s o) = Unit {0}
 
 command-mild : (s code n a b : ℕ) → SerialMild (serial.commandOf s code n a b)
@@ -74,19 +75,19 @@ serial-turned : (h : serialHeard.Heard) (vs : List ℕ) (w : WRecord) → Serial
 unfolding serialReplies.turned
 serial-turned (serialIs.Refused a) vs w s = s
 serial-turned (serialIs.Broken x) vs w s = refl
-serial-turned (serialIs.Strange x) vs w s = refl
+serial-turned (serialIs.NotUnderstood x) vs w s = refl
 serial-turned (serialIs.Understood x o) vs w s = refl
 
 -- ---- SDCP
 abbrev PacketMild : packetsHeard.Heard → Type 0
 PacketMild (packetsIs.Refused a) = Six a
 PacketMild packetsIs.Broken = Unit {0}
-PacketMild packetsIs.Strange = Unit {0}
+PacketMild packetsIs.NotUnderstood = Unit {0}
 PacketMild (packetsIs.Understood o) = Unit {0}
 
 words-mild : (x : Words) → PacketMild (packets.inWords x)
 words-mild (UnderstoodWords o) = tt
-words-mild StrangeWords = tt
+words-mild NotUnderstoodWords = tt
 
 packet-heard : (m : List ℕ) → PacketMild (packets.heardOf m)
 unfolding packets.heardOf
@@ -98,58 +99,58 @@ packet-heard m =
 packet-answer : (h : packetsHeard.Heard) → PacketMild h → Six (packetReplies.answerOf h)
 packet-answer (packetsIs.Refused a) s = s
 packet-answer packetsIs.Broken s = refl
-packet-answer packetsIs.Strange s = refl
+packet-answer packetsIs.NotUnderstood s = refl
 packet-answer (packetsIs.Understood o) s = refl
 
 -- ---- KJW
 abbrev FrameMild : framesHeard.Heard → Type 0
 FrameMild (framesIs.Refused a) = Six a
-FrameMild framesIs.Strange = Unit {0}
+FrameMild framesIs.NotUnderstood = Unit {0}
 FrameMild (framesIs.Understood o) = Unit {0}
 
-order-mild : (most v : ℕ) (o : framesOrder.Order) → FrameMild (frames.upTo most v o)
-unfolding frames.upTo
+order-mild : (most v : ℕ) (o : framesOrder.Order) → FrameMild (framesAsks.upTo most v o)
+unfolding framesAsks.upTo
 order-mild most v o = choose FrameMild (leb v most) _ _ (λ e. tt) (λ e. tt)
 
-control-mild : (l p : List ℕ) → FrameMild (frames.controlOf l p)
-unfolding frames.controlOf frames.volumeOrder frames.inputOrder frames.toggleOf
+control-mild : (l p : List ℕ) → FrameMild (framesAsks.controlOf l p)
+unfolding framesAsks.controlOf framesAsks.volumeOrder framesAsks.inputOrder framesAsks.toggleOf
 control-mild l p =
-    choose FrameMild (same l (nameOf Power)) _ _ (λ e. order-mild 1 _ _)
-    (λ e. choose FrameMild (same l (nameOf AudioMute)) _ _ (λ f. order-mild 1 _ _)
-    (λ f. choose FrameMild (same l (nameOf PictureMute)) _ _ (λ g. order-mild 1 _ _)
-    (λ g. choose FrameMild (same l (nameOf Volume)) _ _ (λ h. choose FrameMild (frames.isVolume p) _ _ (λ i. tt) (λ i. tt))
-    (λ h. choose FrameMild (same l (nameOf Input)) _ _ (λ i. choose FrameMild (frames.isInput p) _ _ (λ j. tt) (λ j. tt))
-    (λ i. choose FrameMild (same l (nameOf Scene)) _ _ (λ j. order-mild 2 _ _)
+    choose FrameMild (same l (stateLetters Power)) _ _ (λ e. order-mild 1 _ _)
+    (λ e. choose FrameMild (same l (stateLetters AudioMute)) _ _ (λ f. order-mild 1 _ _)
+    (λ f. choose FrameMild (same l (stateLetters PictureMute)) _ _ (λ g. order-mild 1 _ _)
+    (λ g. choose FrameMild (same l (stateLetters Volume)) _ _ (λ h. choose FrameMild (framesAsks.isVolume p) _ _ (λ i. tt) (λ i. tt))
+    (λ h. choose FrameMild (same l (stateLetters Input)) _ _ (λ i. choose FrameMild (framesAsks.isInput p) _ _ (λ j. tt) (λ j. tt))
+    (λ i. choose FrameMild (same l (stateLetters Scene)) _ _ (λ j. order-mild 2 _ _)
     (λ j. choose FrameMild (not (same p blank)) _ _ (λ k. tt)
     (λ k. choose FrameMild (same l (ascii "TPOW")) _ _ (λ x. tt) (λ x. choose FrameMild (same l (ascii "TPMU")) _ _ (λ y. tt) (λ y. tt)))))))))
 
-enquiry-mild : (l p : List ℕ) → FrameMild (frames.enquiryOf l p)
-unfolding frames.enquiryOf
+enquiry-mild : (l p : List ℕ) → FrameMild (framesAsks.enquiryOf l p)
+unfolding framesAsks.enquiryOf
 enquiry-mild l p =
     choose FrameMild (not (same p blank)) _ _ (λ e. tt)
-    (λ e. choose FrameMild (same l (nameOf Power)) _ _ (λ f. tt)
-    (λ f. choose FrameMild (same l (nameOf AudioMute)) _ _ (λ g. tt)
-    (λ g. choose FrameMild (same l (nameOf PictureMute)) _ _ (λ h. tt)
-    (λ h. choose FrameMild (same l (nameOf Volume)) _ _ (λ i. tt)
-    (λ i. choose FrameMild (same l (nameOf Input)) _ _ (λ j. tt)
-    (λ j. choose FrameMild (same l (nameOf Scene)) _ _ (λ k. tt) (λ k. tt)))))))
+    (λ e. choose FrameMild (same l (stateLetters Power)) _ _ (λ f. tt)
+    (λ f. choose FrameMild (same l (stateLetters AudioMute)) _ _ (λ g. tt)
+    (λ g. choose FrameMild (same l (stateLetters PictureMute)) _ _ (λ h. tt)
+    (λ h. choose FrameMild (same l (stateLetters Volume)) _ _ (λ i. tt)
+    (λ i. choose FrameMild (same l (stateLetters Input)) _ _ (λ j. tt)
+    (λ j. choose FrameMild (same l (stateLetters Scene)) _ _ (λ k. tt) (λ k. tt)))))))
 
-frame-heard : (m : List ℕ) → FrameMild (frames.heardOf m)
-unfolding frames.heardOf
+frame-heard : (m : List ℕ) → FrameMild (framesAsks.heardOf m)
+unfolding framesAsks.heardOf
 frame-heard m =
     choose FrameMild (not (eqb (length m) 24)) _ _ (λ e. refl)
-    (λ e. choose FrameMild (not (frames.isOurs m)) _ _ (λ f. refl)
+    (λ e. choose FrameMild (not (framesAsks.isOurs m)) _ _ (λ f. refl)
     (λ f. choose FrameMild (eqb (getD m 2 0) typeControl) _ _ (λ g. control-mild (lettersOf m) (part 7 16 m)) (λ g. enquiry-mild (lettersOf m) (part 7 16 m))))
 
-frame-turned : (h : framesHeard.Heard) (k : KRecord) → FrameMild h → Six (frames.turnOf k h .answer)
-unfolding frames.turnOf
+frame-turned : (h : framesHeard.Heard) (k : KRecord) → FrameMild h → Six (frames.decided k h .answer)
+unfolding frames.decided
 frame-turned (framesIs.Refused a) k s = s
-frame-turned framesIs.Strange k s = refl
+frame-turned framesIs.NotUnderstood k s = refl
 frame-turned (framesIs.Understood o) k s = refl
 
-frame-six : (m : List ℕ) (k : KRecord) → Six (frames.turned m k .answer)
-unfolding frames.turned
-frame-six m k = frame-turned (frames.heardOf m) k (frame-heard m)
+frame-six : (m : List ℕ) (k : KRecord) → Six (frames.turnOf m k .answer)
+unfolding frames.turnOf
+frame-six m k = frame-turned (framesAsks.heardOf m) k (frame-heard m)
 
 -- ---- the box
 
@@ -163,7 +164,7 @@ packet-six m w = subst Six (sym (turned-answer m (packets.heardOf m) w)) (packet
 turn-six : (m : Message) (p : Panel) → Six (turn m p .answer)
 unfolding turn
 turn-six (rs232c l m area) p = behind (length area) (serialReplies.turnOf m) (p .w) (serial-turned (serial.heardOf m) (serial.valuesOf m) (p .w) (serial-heard m))
-turn-six (kjw l m area) p = behind (length area) (frames.turned m) (p .k) (frame-six m (p .k))
+turn-six (kjw l m area) p = behind (length area) (frames.turnOf m) (p .k) (frame-six m (p .k))
 turn-six (tcp l m area) p = behind (length area) (packetReplies.turnOf m) (p .w) (packet-six m (p .w))
 turn-six (udp m) p = packet-six m (p .w)
 
@@ -177,7 +178,7 @@ nobody-six : (m : List ℕ) → Six (toNobody m)
 unfolding toNobody
 nobody-six m = choose Six (ltb (length m) 13) WrongLength NotForUs (λ e. refl) (λ e. refl)
 
-lent-six : (area : List ℕ) (fits : Bool) (rest : Answer) → Six rest → Six (lent area fits rest)
+lent-six : (area : List ℕ) (fits : Bool) (rest : Answer) → Six rest → Six (ifOpen area fits rest)
 lent-six area fits rest s = choose Six (ltb (length area) 512) AreaTooSmall _ (λ e. refl) (λ e. choose Six fits rest NoSuchPanel (λ f. s) (λ f. refl))
 
 door-six : (ns : List Name) (m : Message) → Six (door ns m)

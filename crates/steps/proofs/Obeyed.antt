@@ -21,34 +21,36 @@ use Rattle.panels.specs.declared.Panel.{Panel}
 use Rattle.panels.specs.declared.KRecord.{KRecord}
 use Rattle.panels.specs.declared.WRecord.{WRecord}
 use Rattle.panels.specs.declared.DisplayBox.{DisplayBox}
-use Rattle.numbers.specs.Decimals.{inDigits}
-use Rattle.numbers.proofs.Decimals.{three-digits}
-use Rattle.kjw.specs.Frames.{switchWord, off, on, inputWord, valueOf, lettersOf}
+use Rattle.decimals.specs.Decimals.{inDigits}
+use Rattle.decimals.proofs.Decimals.{three-digits}
+use Rattle.kjw.specs.Frames.{switchWord, inputWord, valueOf}
+use Rattle.kjw_asks.specs.Frames.{off, on, lettersOf}
 use Rattle.kjw.specs.Rules as frames
-use Rattle.kjw.specs.declared.Order as framesOrder
-use Rattle.kjw.specs.declared.Heard as framesHeard
-use Rattle.kjw.specs.declared.State.{State}
-use Rattle.kjw.specs.declared.State.the-variants.{Power, AudioMute, PictureMute, Volume, Input, Scene}
-use Rattle.rs232c.specs.Frames as serialForms
+use Rattle.kjw_asks.specs.Asks as framesAsks
+use Rattle.kjw_asks.specs.declared.Order as framesOrder
+use Rattle.kjw_asks.specs.declared.Heard as framesHeard
+use Rattle.kjw_asks.specs.declared.State.{State}
+use Rattle.kjw_asks.specs.declared.State.the-variants.{Power, AudioMute, PictureMute, Volume, Input, Scene}
+use Rattle.rs232c_asks.specs.Asks as serialForms
 use Rattle.rs232c.specs.Orders as serialOrders
-use Rattle.rs232c.specs.declared.Order as serialOrder
-use Rattle.rs232c.specs.declared.Heard as serialHeard
-use Rattle.rs232c.proofs.Back as serialBack
+use Rattle.rs232c_asks.specs.declared.Order as serialOrder
+use Rattle.rs232c_asks.specs.declared.Heard as serialHeard
+use Rattle.rs232c.proofs.AskedBack as serialBack
 use Rattle.steps.specs.Messages.{rs232c, kjw, names}
 use Rattle.steps.specs.Step.{turn, panelAt, step}
 use Rattle.steps.proofs.Turns.{Reaches, door-passed, takes}
 
 -- KJW: the record is that of the order
-turn-obeys : (h : framesHeard.Heard) (o : framesOrder.Order) (k : KRecord) → h ≡ framesHeard.the-variants.Understood o → frames.turnOf k h .k ≡ frames.carried o k
-unfolding frames.turnOf
+turn-obeys : (h : framesHeard.Heard) (o : framesOrder.Order) (k : KRecord) → h ≡ framesHeard.the-variants.Understood o → frames.decided k h .k ≡ frames.carried o k
+unfolding frames.decided
 turn-obeys h o k e = rw e
 
-pub frame-obeyed : (b : DisplayBox) (i l : ℕ) (m area : List ℕ) (o : framesOrder.Order) → frames.heardOf m ≡ framesHeard.the-variants.Understood o → Reaches b (kjw l m area) i → panelAt i (step b (kjw l m area) .box) .k ≡ frames.carried o (panelAt i b .k)
-unfolding turn frames.turned
+pub frame-obeyed : (b : DisplayBox) (i l : ℕ) (m area : List ℕ) (o : framesOrder.Order) → framesAsks.heardOf m ≡ framesHeard.the-variants.Understood o → Reaches b (kjw l m area) i → panelAt i (step b (kjw l m area) .box) .k ≡ frames.carried o (panelAt i b .k)
+unfolding turn frames.turnOf
 frame-obeyed b i l m area o e r =
     ap (λ (p : Panel). p .k) (takes r .panel-is)
-    ∙ ap (λ (t : Turn KRecord). t .after) (roomy (length area) (frames.turned m) (panelAt i b .k) (door-passed (names b) (kjw l m area) (r .passes) .room))
-    ∙ turn-obeys (frames.heardOf m) o (panelAt i b .k) e
+    ∙ ap (λ (t : Turn KRecord). t .after) (roomy (length area) (frames.turnOf m) (panelAt i b .k) (door-passed (names b) (kjw l m area) (r .passes) .room))
+    ∙ turn-obeys (framesAsks.heardOf m) o (panelAt i b .k) e
 
 -- RS-232C
 pub serial-obeyed : (b : DisplayBox) (i l s : ℕ) (m area : List ℕ) (o : serialOrder.Order) → serialForms.heardOf m ≡ serialHeard.the-variants.Understood s o → Reaches b (rs232c l m area) i → panelAt i (step b (rs232c l m area) .box) .w ≡ serialOrders.carried o (serialForms.valuesOf m) (panelAt i b .w)

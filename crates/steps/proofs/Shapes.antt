@@ -13,23 +13,24 @@ use Rattle.terms.specs.declared.Answer.the-variants.{Done}
 use Rattle.turns.specs.Turns.{Turn}
 use Rattle.turns.proofs.Turns.{either as behind}
 use Rattle.panels.specs.Records.{startW, zeroPanel, pastEnd}
-use Rattle.panels.specs.Configure.{freshPanel, askedAt, asked, refusal, configured}
+use Rattle.configure.specs.Configure.{freshPanel, askedAt, asked, refusal, configured}
 use Rattle.panels.specs.Valid.{valid}
 use Rattle.panels.specs.declared.Panel.{Panel}
 use Rattle.panels.specs.declared.Inputs.{Inputs}
 use Rattle.panels.specs.declared.Balance.{Balance}
 use Rattle.panels.specs.declared.WRecord.{WRecord}
 use Rattle.panels.specs.declared.DisplayBox.{DisplayBox}
-use Rattle.panels.specs.declared.Configured.{Configured}
+use Rattle.configure.specs.declared.Configured.{Configured}
 use Rattle.vmc.specs.Orders as words
-use Rattle.vmc.specs.declared.Order as wordsOrder
-use Rattle.vmc.specs.declared.Order.the-variants.{Set, Shift, Reset, Get}
-use Rattle.rs232c.specs.Frames as serialForms
+use Rattle.vmc_asks.specs.declared.Order as wordsOrder
+use Rattle.vmc_asks.specs.declared.Order.the-variants.{Set, Shift, Reset, Get}
+use Rattle.rs232c_asks.specs.Asks as serialForms
 use Rattle.rs232c.specs.Orders as serial
+use Rattle.rs232c_asks.specs.Commands as serialCommands
 use Rattle.rs232c.specs.Replies as serialReplies
-use Rattle.rs232c.specs.declared.Heard as serialHeard
-use Rattle.rs232c.specs.declared.Order as serialOrder
-use Rattle.sdcp_asks.specs.Packets.{heardOf}
+use Rattle.rs232c_asks.specs.declared.Heard as serialHeard
+use Rattle.rs232c_asks.specs.declared.Order as serialOrder
+use Rattle.sdcp_asks.specs.Asks.{heardOf}
 use Rattle.sdcp.specs.Replies as packets
 use Rattle.sdcp_asks.specs.declared.Heard as packetHeard
 use Rattle.sdcp_asks.specs.declared.Heard.the-variants.{Understood}
@@ -38,7 +39,7 @@ use Rattle.steps.specs.Addressing.{addressed}
 use Rattle.steps.specs.Step.{turn, panelAt, step}
 use Rattle.steps.specs.Run.{run}
 use Rattle.steps.proofs.Turns.{either}
-use Rattle.steps.proofs.Asked.{Brings, set-kept}
+use Rattle.steps.proofs.AskedBack.{Brings, set-kept}
 
 pub record Shaped (w : WRecord) : Type 0 where
   pub settings-21 : length (w .settings) ≡ 21
@@ -59,11 +60,11 @@ words-keep (Get k) w s = s
 on-keeps : (byte : ℕ) (on : List ℕ) → length on ≡ 10 → length (serial.onAfter byte on) ≡ 10
 unfolding serial.onAfter serial.turnedOff
 on-keeps byte on e =
-    let place = serial.placeOf (serial.connectorOf byte) in
+    let place = serial.placeOf (serialCommands.connectorOf byte) in
     let P : List ℕ → Type 0 = λ (l : List ℕ). length l ≡ 10 in
-    choose (λ (l : List ℕ). length l ≡ 10) (eqb (serial.actOf byte) 1) _ _
+    choose (λ (l : List ℕ). length l ≡ 10) (eqb (serialCommands.actOf byte) 1) _ _
     (λ f. choose (λ (l : List ℕ). length l ≡ 10) (every (eqb 0) (set on place 0)) on (set on place 0) (λ g. e) (λ g. length-set on place 0 ∙ e))
-    (λ f. choose (λ (l : List ℕ). length l ≡ 10) (eqb (serial.actOf byte) 2) (set on place 1) _ (λ g. length-set on place 1 ∙ e) (λ g. refl))
+    (λ f. choose (λ (l : List ℕ). length l ≡ 10) (eqb (serialCommands.actOf byte) 2) (set on place 1) _ (λ g. length-set on place 1 ∙ e) (λ g. refl))
 
 puts-length : {A : Type 0} (f : ℕ → A) (ss : List serial.Say) (l : List A) → length (serial.puts f ss l) ≡ length l
 puts-length f ss [] = refl
@@ -88,14 +89,14 @@ serial-turned : (h : serialHeard.Heard) (vs : List ℕ) (w : WRecord) → Shaped
 unfolding serialReplies.turned
 serial-turned (serialHeard.the-variants.Refused a) vs w s = s
 serial-turned (serialHeard.the-variants.Broken x) vs w s = s
-serial-turned (serialHeard.the-variants.Strange x) vs w s = s
+serial-turned (serialHeard.the-variants.NotUnderstood x) vs w s = s
 serial-turned (serialHeard.the-variants.Understood x o) vs w s = serial-keep o vs w s
 
 packet-turned : (m : List ℕ) (h : packetHeard.Heard) (w : WRecord) → Shaped w → Shaped (packets.turned m h w .after)
 unfolding packets.turned
 packet-turned m (packetHeard.the-variants.Refused a) w s = s
 packet-turned m packetHeard.the-variants.Broken w s = s
-packet-turned m packetHeard.the-variants.Strange w s = s
+packet-turned m packetHeard.the-variants.NotUnderstood w s = s
 packet-turned m (packetHeard.the-variants.Understood o) w s = words-keep o w s
 
 turn-shaped : (m : Message) (p : Panel) → Shaped (p .w) → Shaped (turn m p .after .w)

@@ -15,18 +15,20 @@ use Rattle.panels.specs.Valid.{okW, okK, okIds, zeroIds, okPanel}
 use Rattle.panels.specs.declared.Panel.{Panel}
 use Rattle.panels.specs.declared.WRecord.{WRecord}
 use Rattle.panels.specs.declared.KRecord.{KRecord}
-use Rattle.rs232c.specs.Frames as serialForms
+use Rattle.rs232c_asks.specs.Asks as serialForms
 use Rattle.rs232c.specs.Replies as serial
-use Rattle.rs232c.specs.declared.Heard as serialHeard
-use Rattle.rs232c.proofs.Told as serialTold
-use Rattle.rs232c.proofs.Kept as serialKept
+use Rattle.rs232c_asks.specs.declared.Heard as serialHeard
+use Rattle.rs232c.proofs.Refusals as serialTold
+use Rattle.rs232c.proofs.Validity as serialKept
 use Rattle.kjw.specs.Rules as frames
-use Rattle.kjw.specs.declared.Heard as frameHeard
-use Rattle.kjw.proofs.Kept as frameKept
-use Rattle.sdcp_asks.specs.Packets as packetForms
+use Rattle.kjw_asks.specs.Asks as framesAsks
+use Rattle.kjw_asks.specs.declared.Heard as frameHeard
+use Rattle.kjw.proofs.Validity as frameKept
+use Rattle.kjw.proofs.Refusals as frameKeptRefusals
+use Rattle.sdcp_asks.specs.Asks as packetForms
 use Rattle.sdcp.specs.Replies as packets
 use Rattle.sdcp_asks.specs.declared.Heard as packetHeard
-use Rattle.sdcp.proofs.Told as packetTold
+use Rattle.sdcp.proofs.Refusals as packetTold
 use Rattle.steps.specs.Messages.{Message, rs232c, kjw, tcp, udp, nameOf}
 use Rattle.steps.specs.Step.{withW, withK, turn}
 
@@ -43,24 +45,24 @@ serial-heard : (h : serialHeard.Heard) (vs : List ℕ) (w : WRecord) → Quiet (
 unfolding serial.turned
 serial-heard (serialHeard.the-variants.Refused a) vs w z l = refl
 serial-heard (serialHeard.the-variants.Broken s) vs w z l = absurd (omega arith)
-serial-heard (serialHeard.the-variants.Strange s) vs w z l = absurd (omega arith)
+serial-heard (serialHeard.the-variants.NotUnderstood s) vs w z l = absurd (omega arith)
 serial-heard (serialHeard.the-variants.Understood s o) vs w z l = absurd (z refl)
 
-frame-heard : (h : frameHeard.Heard) (s : List ℕ) (k : KRecord) → Quiet (numberOf (frames.turnOf k h .answer)) (frames.spelled s (frames.turnOf k h) .reply)
-unfolding frames.turnOf frames.bytesOf
+frame-heard : (h : frameHeard.Heard) (s : List ℕ) (k : KRecord) → Quiet (numberOf (frames.decided k h .answer)) (frames.spelled s (frames.decided k h) .reply)
+unfolding frames.decided frames.bytesOf
 frame-heard (frameHeard.the-variants.Refused a) s k z l = refl
-frame-heard frameHeard.the-variants.Strange s k z l = absurd (omega arith)
+frame-heard frameHeard.the-variants.NotUnderstood s k z l = absurd (omega arith)
 frame-heard (frameHeard.the-variants.Understood o) s k z l = absurd (z refl)
 
-frame-quiet : (m : List ℕ) (k : KRecord) → Quiet (numberOf (frames.turned m k .answer)) (frames.turned m k .reply)
-unfolding frames.turned
-frame-quiet m k = frame-heard (frames.heardOf m) _ k
+frame-quiet : (m : List ℕ) (k : KRecord) → Quiet (numberOf (frames.turnOf m k .answer)) (frames.turnOf m k .reply)
+unfolding frames.turnOf
+frame-quiet m k = frame-heard (framesAsks.heardOf m) _ k
 
 packet-heard : (m : List ℕ) (h : packetHeard.Heard) (w : WRecord) → Quiet (numberOf (packets.turned m h w .answer)) (packets.turned m h w .reply)
 unfolding packets.turned
 packet-heard m (packetHeard.the-variants.Refused a) w z l = refl
 packet-heard m packetHeard.the-variants.Broken w z l = absurd (omega arith)
-packet-heard m packetHeard.the-variants.Strange w z l = absurd (omega arith)
+packet-heard m packetHeard.the-variants.NotUnderstood w z l = absurd (omega arith)
 packet-heard m (packetHeard.the-variants.Understood o) w z l = absurd (z refl)
 
 -- ---- a panel whose W record, or K record, is another: valid where that record is, or is not judged
@@ -138,8 +140,8 @@ sound (rs232c l m area) p =
     (quiet (length area) (serial.turnOf m) (p .w) (serial-heard (serialForms.heardOf m) (serialForms.valuesOf m) (p .w)))
 sound (kjw l m area) p =
     within-k p _ (frameKept.taken-valid (length area) m (p .k))
-    (λ z. frameKept.taken-unchanged (length area) m (p .k) (λ e. z (ap numberOf e)))
-    (quiet (length area) (frames.turned m) (p .k) (frame-quiet m (p .k)))
+    (λ z. frameKeptRefusals.taken-unchanged (length area) m (p .k) (λ e. z (ap numberOf e)))
+    (quiet (length area) (frames.turnOf m) (p .k) (frame-quiet m (p .k)))
 sound (tcp l m area) p =
     within-w p _ (packetTold.stays-valid (length area) m (p .w)) (packetTold.refusal-leaves (length area) m (p .w))
     (quiet (length area) (packets.turnOf m) (p .w) (packet-heard m (packetForms.heardOf m) (p .w)))

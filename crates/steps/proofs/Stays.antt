@@ -12,19 +12,22 @@ use Rattle.turns.proofs.Turns.{either as behind}
 use Rattle.panels.specs.declared.Panel.{Panel}
 use Rattle.panels.specs.declared.WRecord.{WRecord}
 use Rattle.panels.specs.declared.DisplayBox.{DisplayBox}
-use Rattle.vmc.specs.Orders.{toldOf}
-use Rattle.vmc.specs.declared.Order.the-variants.{Get}
-use Rattle.vmc.proofs.Asked as words
-use Rattle.rs232c.proofs.Back as serial
+use Rattle.vmc.specs.Orders.{saysOf}
+use Rattle.vmc_asks.specs.declared.Order.the-variants.{Get}
+use Rattle.vmc.proofs.AskedBack as words
+use Rattle.vmc.proofs.Stays as wordsStays
+use Rattle.rs232c.proofs.AskedBack as serial
+use Rattle.rs232c.proofs.Stays as serialStays
 use Rattle.rs232c.specs.Replies as replies
 use Rattle.kjw.specs.Frames.{valueOf}
 use Rattle.kjw.specs.Rules as frames
-use Rattle.kjw.specs.declared.State.{State}
+use Rattle.kjw_asks.specs.Asks as framesAsks
+use Rattle.kjw_asks.specs.declared.State.{State}
 use Rattle.kjw.proofs.Stays as states
-use Rattle.sdcp_asks.specs.Packets.{heardOf}
+use Rattle.sdcp_asks.specs.Asks.{heardOf}
 use Rattle.sdcp.specs.Replies as packets
 use Rattle.sdcp_asks.specs.declared.Heard.{Heard}
-use Rattle.sdcp_asks.specs.declared.Heard.the-variants.{Refused, Broken, Strange, Understood}
+use Rattle.sdcp_asks.specs.declared.Heard.the-variants.{Refused, Broken, NotUnderstood, Understood}
 use Rattle.steps.specs.Messages.{Message, rs232c, kjw, tcp, udp, names}
 use Rattle.steps.specs.Addressing.{addressed}
 use Rattle.steps.specs.Step.{turn, panelAt, step}
@@ -35,7 +38,7 @@ use Rattle.steps.proofs.Turns.{either, left}
 abbrev pub ordersIt : Heard → ℕ → Bool
 ordersIt (Refused a) j = false
 ordersIt Broken j = false
-ordersIt Strange j = false
+ordersIt NotUnderstood j = false
 ordersIt (Understood o) j = words.touches o j
 
 -- a message that sets name j at the panels that it is addressed to: an SDCP packet with such an order
@@ -55,13 +58,13 @@ bears code (udp m) = false
 -- a message that sets a KJW state at the panel of its link
 abbrev pub setsState : Message → State → Bool
 setsState (rs232c l m area) s = false
-setsState (kjw l m area) s = states.setsState (frames.heardOf m) s
+setsState (kjw l m area) s = states.setsState (framesAsks.heardOf m) s
 setsState (tcp l m area) s = false
 setsState (udp m) s = false
 
 -- what of a W record no packet changes, and what only an order that sets it does
 record Left (h : Heard) (w w′ : WRecord) : Type 0 where
-  told-stays : (j : ℕ) → ordersIt h j ≡ false → toldOf (Get j) w′ ≡ toldOf (Get j) w
+  told-stays : (j : ℕ) → ordersIt h j ≡ false → saysOf (Get j) w′ ≡ saysOf (Get j) w
   inputs-stay : w′ .inputs ≡ w .inputs
   balance-stays : w′ .balance ≡ w .balance
 
@@ -72,35 +75,35 @@ turned-left : (m : List ℕ) (h : Heard) (w : WRecord) → Left h w (packets.tur
 unfolding packets.turned
 turned-left m (Refused a) w = unmoved (Refused a) w
 turned-left m Broken w = unmoved Broken w
-turned-left m Strange w = unmoved Strange w
+turned-left m NotUnderstood w = unmoved NotUnderstood w
 turned-left m (Understood o) w =
-    let s = words.stays o w in
+    let s = wordsStays.stays o w in
     record { told-stays = s .told-stays; inputs-stay = s .inputs-stay; balance-stays = s .balance-stays }
 
 packet-left : (room : ℕ) (m : List ℕ) (w : WRecord) → Left (heardOf m) w (taken room (packets.turnOf m) w .after)
 packet-left room m w = behind (λ (t : Turn WRecord). Left (heardOf m) w (t .after)) room (packets.turnOf m) w (unmoved (heardOf m) w) (turned-left m (heardOf m) w)
 
 -- STATget reads the settings and the shifts alone
-same-told : (j : ℕ) (w w′ : WRecord) → w′ .settings ≡ w .settings → w′ .shifts ≡ w .shifts → toldOf (Get j) w′ ≡ toldOf (Get j) w
-unfolding toldOf
+same-told : (j : ℕ) (w w′ : WRecord) → w′ .settings ≡ w .settings → w′ .shifts ≡ w .shifts → saysOf (Get j) w′ ≡ saysOf (Get j) w
+unfolding saysOf
 same-told j w w′ e f = rw (e, f)
 
-turn-told : (m : Message) (p : Panel) (j : ℕ) → sets m j ≡ false → toldOf (Get j) (turn m p .after .w) ≡ toldOf (Get j) (p .w)
+turn-told : (m : Message) (p : Panel) (j : ℕ) → sets m j ≡ false → saysOf (Get j) (turn m p .after .w) ≡ saysOf (Get j) (p .w)
 unfolding turn
 turn-told (rs232c l m area) p j n =
-    let s = serial.stays (length area) m (p .w) in
+    let s = serialStays.stays (length area) m (p .w) in
     same-told j (p .w) (taken (length area) (replies.turnOf m) (p .w) .after) (s .settings-stay) (s .shifts-stay)
 turn-told (kjw l m area) p j n = refl
 turn-told (tcp l m area) p j n = packet-left (length area) m (p .w) .told-stays j n
 turn-told (udp m) p j n = turned-left m (heardOf m) (p .w) .told-stays j n
 
 -- whatever the box, the message and the place: what STATget tells of name j stays, but for an order that sets it
-pub told-stays : (b : DisplayBox) (m : Message) (i j : ℕ) → sets m j ≡ false → toldOf (Get j) (panelAt i (step b m .box) .w) ≡ toldOf (Get j) (panelAt i b .w)
-told-stays b m i j n = either (λ (p : Panel). toldOf (Get j) (p .w) ≡ toldOf (Get j) (panelAt i b .w)) b m i refl (turn-told m (panelAt i b) j n)
+pub told-stays : (b : DisplayBox) (m : Message) (i j : ℕ) → sets m j ≡ false → saysOf (Get j) (panelAt i (step b m .box) .w) ≡ saysOf (Get j) (panelAt i b .w)
+told-stays b m i j n = either (λ (p : Panel). saysOf (Get j) (p .w) ≡ saysOf (Get j) (panelAt i b .w)) b m i refl (turn-told m (panelAt i b) j n)
 
 turn-inputs : (m : Message) (p : Panel) → bears 0x21 m ≡ false → bears 0x22 m ≡ false → turn m p .after .w .inputs ≡ p .w .inputs
 unfolding turn
-turn-inputs (rs232c l m area) p n n′ = serial.stays (length area) m (p .w) .inputs-stay (eqb-false (getD m 4 0) 0x21 n) (eqb-false (getD m 4 0) 0x22 n′)
+turn-inputs (rs232c l m area) p n n′ = serialStays.stays (length area) m (p .w) .inputs-stay (eqb-false (getD m 4 0) 0x21 n) (eqb-false (getD m 4 0) 0x22 n′)
 turn-inputs (kjw l m area) p n n′ = refl
 turn-inputs (tcp l m area) p n n′ = packet-left (length area) m (p .w) .inputs-stay
 turn-inputs (udp m) p n n′ = turned-left m (heardOf m) (p .w) .inputs-stay
@@ -111,7 +114,7 @@ inputs-stay b m i n n′ = either (λ (p : Panel). p .w .inputs ≡ panelAt i b 
 
 turn-balance : (m : Message) (p : Panel) → bears 0x40 m ≡ false → turn m p .after .w .balance ≡ p .w .balance
 unfolding turn
-turn-balance (rs232c l m area) p n = serial.stays (length area) m (p .w) .balance-stays (eqb-false (getD m 4 0) 0x40 n)
+turn-balance (rs232c l m area) p n = serialStays.stays (length area) m (p .w) .balance-stays (eqb-false (getD m 4 0) 0x40 n)
 turn-balance (kjw l m area) p n = refl
 turn-balance (tcp l m area) p n = packet-left (length area) m (p .w) .balance-stays
 turn-balance (udp m) p n = turned-left m (heardOf m) (p .w) .balance-stays
@@ -155,8 +158,8 @@ module _ {A : Type 0} (f : Panel → A) (sets : Message → Bool) (s : (b : Disp
       ∙ one-stays b m i (not-true (addressed (names b) m i && sets m) (and-first quiet (spared sets i (step b m .box) ms) e))
 
 -- what STATget tells of name j
-pub told-lasts : (j : ℕ) (ms : List Message) (b : DisplayBox) (i : ℕ) → spared (λ (m : Message). sets m j) i b ms ≡ true → toldOf (Get j) (panelAt i (run b ms) .w) ≡ toldOf (Get j) (panelAt i b .w)
-told-lasts j ms b i e = run-stays (λ (p : Panel). toldOf (Get j) (p .w)) (λ (m : Message). sets m j) (λ c m k n. told-stays c m k j n) ms b i e
+pub told-lasts : (j : ℕ) (ms : List Message) (b : DisplayBox) (i : ℕ) → spared (λ (m : Message). sets m j) i b ms ≡ true → saysOf (Get j) (panelAt i (run b ms) .w) ≡ saysOf (Get j) (panelAt i b .w)
+told-lasts j ms b i e = run-stays (λ (p : Panel). saysOf (Get j) (p .w)) (λ (m : Message). sets m j) (λ c m k n. told-stays c m k j n) ms b i e
 
 -- the white balance
 pub balance-lasts : (ms : List Message) (b : DisplayBox) (i : ℕ) → spared (bears 0x40) i b ms ≡ true → panelAt i (run b ms) .w .balance ≡ panelAt i b .w .balance

@@ -21,11 +21,11 @@ use Rattle.panels.specs.Records.{pastEnd}
 use Rattle.panels.specs.Valid.{inUse, valid}
 use Rattle.panels.specs.declared.Panel.{Panel}
 use Rattle.panels.specs.declared.DisplayBox.{DisplayBox}
-use Rattle.sdcp_asks.specs.Packets.{heardOf, groupOf, unitOf}
-use Rattle.sdcp.proofs.Told.{turned-answer}
+use Rattle.sdcp_asks.specs.Asks.{heardOf, groupOf, unitOf}
+use Rattle.sdcp.proofs.Refusals.{turned-answer}
 use Rattle.steps.specs.Messages.{Message, rs232c, kjw, tcp, udp, Name, nobody, nameOf, names, onLink, isW, isK}
 use Rattle.steps.specs.Addressing.{hasIds, isId, isPair, pairNumber, byTcp, target, isCalled, addressed}
-use Rattle.steps.specs.Step.{lent, door, turn, backOn, back, Outcome, panelAt, ownTurn, answerTo, passed, refused, through, step}
+use Rattle.steps.specs.Step.{ifOpen, door, turn, backOn, back, Outcome, panelAt, ownTurn, answerTo, passed, refused, through, step}
 
 -- a message comes to the panel at place i: it passes the checks before the panels, and is addressed to that place
 pub record Reaches (b : DisplayBox) (m : Message) (i : ℕ) : Type 0 where
@@ -77,7 +77,7 @@ pub record Lent (area : List ℕ) (fits : Bool) : Type 0 where
   pub room : 512 ≤ length area
   pub link-fits : fits ≡ true
 
-lent-passed : (area : List ℕ) (fits : Bool) (rest : Answer) → lent area fits rest ≡ Done → Lent area fits
+lent-passed : (area : List ℕ) (fits : Bool) (rest : Answer) → ifOpen area fits rest ≡ Done → Lent area fits
 lent-passed area fits rest e =
     let t = rung (ltb (length area) 512) AreaTooSmall (cond fits rest NoSuchPanel) Done (λ q. let z : _≡_ {A = ℕ} 1 0 = ap numberOf q in omega arith) e in
     record { room = ltb-false (length area) 512 (t .0); link-fits = go fits (t .1) }

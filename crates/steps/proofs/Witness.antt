@@ -11,22 +11,24 @@ use Rattle.laws.specs.Bytes.{ascii}
 use Rattle.laws.specs.Numbers.{number, inBytes}
 use Rattle.sums.specs.Sums.{sumOf}
 use Rattle.terms.specs.declared.Answer.the-variants.{Done}
-use Rattle.numbers.specs.Decimals as decimals
-use Rattle.words.specs.Names as words
+use Rattle.decimals.specs.Decimals as decimals
+use Rattle.setting_words.specs.Names as words
 use Rattle.turns.specs.Turns.{taken}
 use Rattle.panels.specs.Records.{familyW, familyK}
 use Rattle.panels.specs.Valid as rules
-use Rattle.panels.specs.Configure.{askedAt, asked, configured}
+use Rattle.configure.specs.Configure.{askedAt, asked, configured}
 use Rattle.panels.specs.declared.DisplayBox.{DisplayBox}
 use Rattle.vmc.specs.Orders as orders
-use Rattle.vmc.specs.Reading as reading
-use Rattle.vmc.specs.Texts as texts
-use Rattle.rs232c.specs.Frames as serialForms
+use Rattle.vmc_asks.specs.Asks as reading
+use Rattle.vmc_tells.specs.Texts as texts
+use Rattle.rs232c_asks.specs.Asks as serialForms
 use Rattle.rs232c.specs.Orders as serialOrders
 use Rattle.rs232c.specs.Replies as serial
 use Rattle.kjw.specs.Frames as frameForms
+use Rattle.kjw_asks.specs.Frames as frameFormsFrames
 use Rattle.kjw.specs.Rules as frames
-use Rattle.sdcp_asks.specs.Packets as packetForms
+use Rattle.kjw_asks.specs.Asks as framesAsks
+use Rattle.sdcp_asks.specs.Asks as packetForms
 use Rattle.sdcp.specs.Replies as packets
 use Rattle.steps.specs.Messages.{Message, rs232c, kjw, tcp, udp, nameOf, names}
 use Rattle.steps.specs.Addressing.{hasIds, isPair, pairNumber, byTcp, target, isCalled, addressed}
@@ -97,7 +99,7 @@ volume i b = getD (panelAt i b .w .settings) 2 0
 
 -- panel 1's volume at the two ends, and what panel 2 heard: nothing by UDP, "VOLUME 40", and REMOTE OFF
 ends : (volume 0 (run start one) ≡ 99) × (volume 0 (run start two) ≡ 40) × (replies 1 start one ≡ done nothing ∷ done (backOn room told-40) ∷ done nothing ∷ done (backOn room told-off) ∷ [])
-unfolding configured asked askedAt rules.valid rules.okPanel rules.okIds rules.zeroIds rules.okW rules.okK rules.okInput rules.okInputs rules.okBalance rules.okGain rules.okBias rules.okShift rules.share rules.distinct nameOf names packetForms.isOurs hasIds isPair pairNumber byTcp target isCalled addressed door turn step taken packets.turned packets.bytesOf packets.packetOf packetForms.heardOf packetForms.isBroken number inBytes orders.carried orders.toldOf reading.readData reading.readSet reading.readGet reading.valueOrder decimals.upTo decimals.isNumeral decimals.leadsZero texts.textOf texts.setWords texts.valueWords decimals.isDigit decimals.decimal decimals.inDigits decimals.numeral words.namedBy words.ledBy words.chosenBy frameForms.lettersOf frameForms.nameOf frames.turned frames.turnOf frames.heardOf frames.isOurs frames.controlOf frames.upTo frames.switchOf frames.carried serial.turned serial.replyTo serial.bytesOf serial.frameOf serialForms.heardOf serialForms.isForeign serialForms.isBroken serialForms.commandOf serialOrders.carried sumOf
+unfolding configured asked askedAt rules.valid rules.okPanel rules.okIds rules.zeroIds rules.okW rules.okK rules.okInput rules.okInputs rules.okBalance rules.okGain rules.okBias rules.okShift rules.share rules.distinct nameOf names packetForms.isOurs hasIds isPair pairNumber byTcp target isCalled addressed door turn step taken packets.turned packets.bytesOf packets.packetOf packetForms.heardOf packetForms.isBroken number inBytes orders.carried orders.saysOf reading.readData reading.readSet reading.readGet reading.valueOrder decimals.upTo decimals.isNumeral decimals.leadsZero texts.textOf texts.setWords texts.valueWords decimals.isDigit decimals.decimal decimals.inDigits decimals.numeral words.namedBy words.ledBy words.chosenBy frameFormsFrames.lettersOf frameFormsFrames.stateLetters frames.turnOf frames.decided framesAsks.heardOf framesAsks.isOurs framesAsks.controlOf framesAsks.upTo framesAsks.switchOf frames.carried serial.turned serial.replyTo serial.bytesOf serial.frameOf serialForms.heardOf serialForms.isForeign serialForms.isBroken serialForms.commandOf serialOrders.carried sumOf
 ends = (refl, refl, refl)
 
 pub differ : run start one ≡ run start two → ⊥

@@ -7,7 +7,7 @@ use lib.Dec.{eqb, leb}
 use lib.ListN.{length, getD}
 use Rattle.terms.specs.declared.GroupId.{GroupId}
 use Rattle.terms.specs.declared.UnitId.{UnitId}
-use Rattle.sdcp_asks.specs.Packets.{isOurs, groupOf, unitOf}
+use Rattle.sdcp_asks.specs.Asks.{isOurs, groupOf, unitOf}
 use Rattle.steps.specs.Messages.{Message, rs232c, kjw, tcp, udp, Name, nobody, aW, aK}
 
 -- the packet has its first eight bytes, and they are SDCP's: fewer, or a wrong version, category or community, address nobody

@@ -17,7 +17,7 @@ use Rattle.panels.specs.declared.KRecord.{KRecord}
 use Rattle.panels.specs.declared.DisplayBox.{DisplayBox}
 use Rattle.rs232c.specs.Replies as serial
 use Rattle.kjw.specs.Rules as frames
-use Rattle.sdcp_asks.specs.Packets.{heardOf}
+use Rattle.sdcp_asks.specs.Asks.{heardOf}
 use Rattle.sdcp.specs.Replies as packets
 use Rattle.steps.specs.Messages.{Message, rs232c, kjw, tcp, udp, Name, names, onLink, isW, isK}
 use Rattle.steps.specs.Addressing.{target, addressed, anyCalled}
@@ -34,24 +34,24 @@ withPanels b ps = record { count = b .count; panels = ps }
 -- ---- checks 1 and 2, and 3 or 4 where nobody is addressed, from the names and the message alone; Done where they are passed
 
 -- "1 reply area under 512 bytes", "2 no panel with that link number, or it is of the other family"
-abbrev pub lent : List ℕ → Bool → Answer → Answer
-lent area fits rest = cond (ltb (length area) 512) AreaTooSmall (cond fits rest NoSuchPanel)
+abbrev pub ifOpen : List ℕ → Bool → Answer → Answer
+ifOpen area fits rest = cond (ltb (length area) 512) AreaTooSmall (cond fits rest NoSuchPanel)
 
 -- "Under 13 bytes: 3. [..] or no panel addressed: 4."
 unfoldable pub toNobody : List ℕ → Answer
 toNobody m = cond (ltb (length m) 13) WrongLength NotForUs
 
 unfoldable pub door : List Name → Message → Answer
-door ns (rs232c l m area) = lent area (isW (onLink ns l)) Done
-door ns (kjw l m area) = lent area (isK (onLink ns l)) Done
-door ns (tcp l m area) = lent area (isW (onLink ns l)) (cond (eqb (target ns (tcp l m area)) 0) (toNobody m) Done)
+door ns (rs232c l m area) = ifOpen area (isW (onLink ns l)) Done
+door ns (kjw l m area) = ifOpen area (isK (onLink ns l)) Done
+door ns (tcp l m area) = ifOpen area (isW (onLink ns l)) (cond (eqb (target ns (tcp l m area)) 0) (toNobody m) Done)
 door ns (udp m) = cond (anyCalled m ns) Done (toNobody m)
 
 -- ---- what a panel does with a message that is addressed to it: it sees its own record alone
 
 unfoldable pub turn : Message → Panel → Turn Panel
 turn (rs232c l m area) p = within (withW p) (taken (length area) (serial.turnOf m) (p .w))
-turn (kjw l m area) p = within (withK p) (taken (length area) (frames.turned m) (p .k))
+turn (kjw l m area) p = within (withK p) (taken (length area) (frames.turnOf m) (p .k))
 turn (tcp l m area) p = within (withW p) (taken (length area) (packets.turnOf m) (p .w))
 turn (udp m) p = within (withW p) (packets.turnOf m (p .w))
 

@@ -8,8 +8,8 @@ use Rattle.terms.specs.declared.Answer.{Answer}
 use Rattle.terms.specs.declared.GroupId.{GroupId}
 use Rattle.terms.specs.declared.UnitId.{UnitId}
 
-pub number-of-one : (a : Answer) (r r′ : ℕ) → r ≡ numberOf a → r′ ≡ numberOf a → r ≡ r′
-number-of-one a r r′ p q = p ∙ sym q
+pub answer-number-one : (a : Answer) (r r′ : ℕ) → r ≡ numberOf a → r′ ≡ numberOf a → r ≡ r′
+answer-number-one a r r′ p q = p ∙ sym q
 
 pub same-group-one : (a b : GroupId) (r r′ : Bool) → r ≡ eqb (a .0) (b .0) → r′ ≡ eqb (a .0) (b .0) → r ≡ r′
 same-group-one a b r r′ p q = p ∙ sym q

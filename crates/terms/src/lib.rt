@@ -24,7 +24,7 @@ pub enum Answer {
 }
 
 // The answer's number.
-pub fn number_of(a: Answer) -> u8
+pub fn answer_number(a: Answer) -> u8
     ensures { λ r. ⌜ r ≡ numberOf a ⌝ }
 {
     match a {

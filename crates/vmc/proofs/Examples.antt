@@ -6,30 +6,30 @@ use mathlib.Core.List.{List, [], _∷_, _++_, map}
 use lib.IntN.{pos, negsuc}
 use Rattle.laws.specs.Bytes.{ascii}
 use Rattle.laws.specs.Lists.{every}
-use Rattle.numbers.specs.Decimals.{isDigit, decimal, leadsZero, isNumeral, upTo, inDigits, numeral}
+use Rattle.decimals.specs.Decimals.{isDigit, decimal, leadsZero, isNumeral, upTo, inDigits, numeral}
 use Rattle.panels.specs.Records.{startW}
 use Rattle.panels.specs.declared.WRecord.{WRecord}
-use Rattle.words.specs.Names.{namedBy, ledBy, chosenBy}
-use Rattle.vmc.specs.Orders.{carried, toldOf}
-use Rattle.vmc.specs.Reading.{shiftOrder, valueOrder, readSet, readGet, readData}
-use Rattle.vmc.specs.Texts.{valueWords, shiftWords, setWords, moveWords, textOf}
-use Rattle.vmc.specs.declared.Order.the-variants.{Set, Shift, Reset, Get}
-use Rattle.vmc.specs.declared.Told.the-variants.{Value, Offset}
-use Rattle.vmc.specs.declared.Words.{Words}
-use Rattle.vmc.specs.declared.Words.the-variants.{Understood, Strange}
+use Rattle.setting_words.specs.Names.{namedBy, ledBy, chosenBy}
+use Rattle.vmc.specs.Orders.{carried, saysOf}
+use Rattle.vmc_asks.specs.Asks.{shiftOrder, valueOrder, readSet, readGet, readData}
+use Rattle.vmc_tells.specs.Texts.{valueWords, shiftWords, setWords, moveWords, textOf}
+use Rattle.vmc_asks.specs.declared.Order.the-variants.{Set, Shift, Reset, Get}
+use Rattle.vmc_tells.specs.declared.Says.the-variants.{Value, Offset}
+use Rattle.vmc_asks.specs.declared.Words.{Words}
+use Rattle.vmc_asks.specs.declared.Words.the-variants.{Understood, NotUnderstood}
 
 -- the record after some words, and the words that then go back; words that are not understood do neither
 after : Words → WRecord → WRecord
 after (Understood o) w = carried o w
-after Strange w = w
+after NotUnderstood w = w
 
 reply : Words → WRecord → List ℕ
-reply (Understood o) w = textOf (toldOf o w)
-reply Strange w = []
+reply (Understood o) w = textOf (saysOf o w)
+reply NotUnderstood w = []
 
 -- * `STATset VOLUME 40`, "Then `STATget VOLUME`: length 9, `VOLUME 40`"
 bench-volume : reply (readData (ascii "STATget VOLUME")) (after (readData (ascii "STATset VOLUME 40")) startW) ≡ ascii "VOLUME 40"
-unfolding after reply readData readSet readGet valueOrder upTo isNumeral leadsZero isDigit decimal inDigits numeral ledBy namedBy carried toldOf textOf setWords valueWords
+unfolding after reply readData readSet readGet valueOrder upTo isNumeral leadsZero isDigit decimal inDigits numeral ledBy namedBy carried saysOf textOf setWords valueWords
 bench-volume = refl
 
 -- "as `VOLUME 40`, `MODE2`, `CAMERA FOCUS OFF`, `SHIFTH +5`, `SHIFTH 0`"
@@ -142,7 +142,7 @@ words-off =
 
 isStrange : Words → Bool
 isStrange (Understood o) = false
-isStrange Strange = true
+isStrange NotUnderstood = true
 
 strange : List ℕ → Bool
 strange d = isStrange (readData d)

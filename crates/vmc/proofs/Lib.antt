@@ -1,9 +1,8 @@
-pub mod Asked
-pub mod Back
+pub mod AskedBack
+pub mod ReadBack
 pub mod Determined
 mod Examples
-pub mod Kept
+pub mod Validity
 pub mod Only
-pub mod Phrases
 pub mod Plain
-mod Signs
+pub mod Stays

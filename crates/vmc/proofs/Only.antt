@@ -15,25 +15,25 @@ use Rattle.laws.proofs.Conditions.{and-first, and-second, false-true}
 use Rattle.laws.proofs.Lists.{same-is}
 use Rattle.laws.proofs.Table.{below}
 use Rattle.laws.proofs.Texts.{begins-front}
-use Rattle.numbers.specs.Decimals.{decimal, isNumeral, upTo, numeral}
-use Rattle.numbers.specs.declared.Number.{Number}
-use Rattle.numbers.specs.declared.Number.the-variants.{Is, Not}
-use Rattle.numbers.proofs.Decimals.{decimal-fits, in-digits-decimal}
-use Rattle.numbers.proofs.Numerals.{numeral-digits, numeral-long}
+use Rattle.decimals.specs.Decimals.{decimal, isNumeral, upTo, numeral}
+use Rattle.decimals.specs.declared.Number.{Number}
+use Rattle.decimals.specs.declared.Number.the-variants.{Is, Not}
+use Rattle.decimals.proofs.Decimals.{decimal-fits, in-digits-decimal}
+use Rattle.decimals.proofs.Numerals.{numeral-digits, numeral-long}
 use Rattle.settings.specs.Table.{mosts}
 use Rattle.panels.specs.Valid.{okShift}
-use Rattle.words.specs.Names.{nameOf, leadOf, wordsOf, wordOf, namedBy, ledBy, chosenBy}
-use Rattle.words.specs.declared.Found.{Found}
-use Rattle.words.specs.declared.Found.the-variants.{At, Nothing}
-use Rattle.words.proofs.Search.{Right, first-right}
-use Rattle.words.proofs.Choices.{led-right}
-use Rattle.vmc.specs.Reading.{levelOf, levelOrder, choiceOrder, shiftBy, shiftOrder, valueOrder, setOrder, readSet, getOrder, readGet, readData}
-use Rattle.vmc.specs.Texts.{valueWords, shiftWords, setWords, moveWords}
-use Rattle.vmc.specs.declared.Order.{Order}
-use Rattle.vmc.specs.declared.Order.the-variants.{Set, Shift, Reset, Get}
-use Rattle.vmc.specs.declared.Words.{Words}
-use Rattle.vmc.specs.declared.Words.the-variants.{Understood, Strange}
-use Rattle.vmc.proofs.Back.{set-back, move-back, plain-back, reset-back, get-back}
+use Rattle.setting_words.specs.Names.{nameOf, leadOf, wordsOf, wordOf, namedBy, ledBy, chosenBy}
+use Rattle.setting_words.specs.declared.Found.{Found}
+use Rattle.setting_words.specs.declared.Found.the-variants.{At, Nothing}
+use Rattle.setting_words.proofs.Search.{Right, first-right}
+use Rattle.setting_words.proofs.Choices.{led-right}
+use Rattle.vmc_asks.specs.Asks.{levelOf, levelOrder, choiceOrder, shiftBy, shiftOrder, valueOrder, setOrder, readSet, getOrder, readGet, readData}
+use Rattle.vmc_tells.specs.Texts.{valueWords, shiftWords, setWords, moveWords}
+use Rattle.vmc_asks.specs.declared.Order.{Order}
+use Rattle.vmc_asks.specs.declared.Order.the-variants.{Set, Shift, Reset, Get}
+use Rattle.vmc_asks.specs.declared.Words.{Words}
+use Rattle.vmc_asks.specs.declared.Words.the-variants.{Understood, NotUnderstood}
+use Rattle.vmc.proofs.ReadBack.{set-back, move-back, plain-back, reset-back, get-back}
 
 -- the words behind STATset, and what they order
 pub data Spoken : List ℕ → Order → Type 0 where
@@ -57,7 +57,7 @@ all _ _ (stat-get k h) = get-back k h
 -- what is known of the order, where there is one
 abbrev Says : (Order → Type 0) → Words → Type 0
 Says P (Understood o) = P o
-Says P Strange = Unit {0}
+Says P NotUnderstood = Unit {0}
 
 pick : (P : Order → Type 0) (b : Bool) (x y : Words) → (b ≡ true → Says P x) → (b ≡ false → Says P y) → Says P (cond b x y)
 pick P true x y f g = f refl
@@ -65,7 +65,7 @@ pick P false x y f g = g refl
 
 carry : (P Q : Order → Type 0) → ((o : Order) → P o → Q o) → (x : Words) → Says P x → Says Q x
 carry P Q f (Understood o) p = f o p
-carry P Q f Strange p = tt
+carry P Q f NotUnderstood p = tt
 
 -- ---- levels: the words of a level are its numeral
 
@@ -150,7 +150,7 @@ choice-order k t h l Nothing r = tt
 
 plus : (axis : ℕ) (t u : List ℕ) → axis < 2 → t ≡ ascii "+" ++ u → (x : Number) → Reads u x → Says (Spoken (leadOf (21 + axis) ++ t)) (shiftBy axis false 1 x)
 unfolding moveWords shiftWords okShift
-plus axis t u h f (Is n) r = pick (Spoken (leadOf (21 + axis) ++ t)) (leb 1 n && leb n 30) (Understood (Shift axis (pos n))) Strange go (λ e. tt)
+plus axis t u h f (Is n) r = pick (Spoken (leadOf (21 + axis) ++ t)) (leb 1 n && leb n 30) (Understood (Shift axis (pos n))) NotUnderstood go (λ e. tt)
   where
     go : (leb 1 n && leb n 30) ≡ true → Spoken (leadOf (21 + axis) ++ t) (Shift axis (pos n))
     go e =
@@ -162,7 +162,7 @@ plus axis t u h f Not r = tt
 minus : (axis : ℕ) (t u : List ℕ) → axis < 2 → t ≡ ascii "-" ++ u → (x : Number) → Reads u x → Says (Spoken (leadOf (21 + axis) ++ t)) (shiftBy axis true 1 x)
 unfolding moveWords shiftWords okShift
 minus axis t u h f (Is zero) r = tt
-minus axis t u h f (Is (suc n)) r = pick (Spoken (leadOf (21 + axis) ++ t)) (leb 1 (suc n) && leb (suc n) 30) (Understood (Shift axis (negsuc n))) Strange go (λ e. tt)
+minus axis t u h f (Is (suc n)) r = pick (Spoken (leadOf (21 + axis) ++ t)) (leb 1 (suc n) && leb (suc n) 30) (Understood (Shift axis (negsuc n))) NotUnderstood go (λ e. tt)
   where
     go : (leb 1 (suc n) && leb (suc n) 30) ≡ true → Spoken (leadOf (21 + axis) ++ t) (Shift axis (negsuc n))
     go e =
@@ -172,7 +172,7 @@ minus axis t u h f (Is (suc n)) r = pick (Spoken (leadOf (21 + axis) ++ t)) (leb
 minus axis t u h f Not r = tt
 
 alone : (axis : ℕ) (t : List ℕ) → axis < 2 → (x : Number) → Reads t x → Says (Spoken (leadOf (21 + axis) ++ t)) (shiftBy axis false 0 x)
-alone axis t h (Is n) r = pick (Spoken (leadOf (21 + axis) ++ t)) (leb 0 n && leb n 30) (Understood (Shift axis (pos n))) Strange go (λ e. tt)
+alone axis t h (Is n) r = pick (Spoken (leadOf (21 + axis) ++ t)) (leb 0 n && leb n 30) (Understood (Shift axis (pos n))) NotUnderstood go (λ e. tt)
   where
     go : (leb 0 n && leb n 30) ≡ true → Spoken (leadOf (21 + axis) ++ t) (Shift axis (pos n))
     go e = subst (λ (y : List ℕ). Spoken (leadOf (21 + axis) ++ y) (Shift axis (pos n))) (sym (r .spelt)) (plain axis n h (leb-true n 30 (and-second (leb 0 n) (leb n 30) e)))

@@ -10,12 +10,12 @@ use lib.IntN.{ℤ, pos, negsuc}
 use borrow.Author.Tests.{ltb-true, ltb-false, le-ltb}
 use Rattle.laws.specs.Bytes.{ascii}
 use Rattle.laws.proofs.Table.{below, sure}
-use Rattle.numbers.specs.Decimals.{numeral}
-use Rattle.words.specs.Names.{leads, leadOf}
-use Rattle.words.proofs.Choices.{none}
-use Rattle.vmc.specs.Texts.{sizeOf, signOf, valueWords, shiftWords, setWords, moveWords, textOf}
-use Rattle.vmc.specs.declared.Told.{Told}
-use Rattle.vmc.specs.declared.Told.the-variants.{Bare, Value, Offset}
+use Rattle.decimals.specs.Decimals.{numeral}
+use Rattle.setting_words.specs.Names.{leads, leadOf}
+use Rattle.setting_words.proofs.Choices.{none}
+use Rattle.vmc_tells.specs.Texts.{sizeOf, signOf, valueWords, shiftWords, setWords, moveWords, textOf}
+use Rattle.vmc_tells.specs.declared.Says.{Says}
+use Rattle.vmc_tells.specs.declared.Says.the-variants.{Bare, Value, Offset}
 
 abbrev pub Low : List ℕ → Type 0
 Low l = getD l 0 0 < 0x80
@@ -53,7 +53,7 @@ low-shift z = go (eqb (sizeOf z) 0) z
     go false (pos n) = omega arith
     go false (negsuc n) = omega arith
 
-pub low-text : (t : Told) → Low (textOf t)
+pub low-text : (t : Says) → Low (textOf t)
 unfolding textOf setWords moveWords valueWords
 low-text Bare = omega arith
 low-text (Value k v) = with-lead k (valueWords k v) none-behind

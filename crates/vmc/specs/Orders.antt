@@ -6,10 +6,10 @@ use lib.ListN.{getD, set, replicate}
 use lib.Dec.{ltb}
 use lib.IntN.{ℤ, pos}
 use Rattle.panels.specs.declared.WRecord.{WRecord}
-use Rattle.vmc.specs.declared.Order.{Order}
-use Rattle.vmc.specs.declared.Order.the-variants.{Set, Shift, Reset, Get}
-use Rattle.vmc.specs.declared.Told.{Told}
-use Rattle.vmc.specs.declared.Told.the-variants.{Bare, Value, Offset}
+use Rattle.vmc_asks.specs.declared.Order.{Order}
+use Rattle.vmc_asks.specs.declared.Order.the-variants.{Set, Shift, Reset, Get}
+use Rattle.vmc_tells.specs.declared.Says.{Says}
+use Rattle.vmc_tells.specs.declared.Says.the-variants.{Bare, Value, Offset}
 
 abbrev pub withSettings : WRecord → List ℕ → WRecord
 withSettings w s = record { settings = s; shifts = w .shifts; spare = w .spare; inputs = w .inputs; balance = w .balance }
@@ -25,8 +25,8 @@ carried Reset w = withShifts w (replicate 2 (pos 0))
 carried (Get k) w = w
 
 -- a set's "OK carries no data"; STATget's carries the present value
-unfoldable pub toldOf : Order → WRecord → Told
-toldOf (Set k v) w = Bare
-toldOf (Shift axis z) w = Bare
-toldOf Reset w = Bare
-toldOf (Get k) w = cond (ltb k 21) (Value k (getD (w .settings) k 0)) (Offset k (getD (w .shifts) (k - 21) (pos 0)))
+unfoldable pub saysOf : Order → WRecord → Says
+saysOf (Set k v) w = Bare
+saysOf (Shift axis z) w = Bare
+saysOf Reset w = Bare
+saysOf (Get k) w = cond (ltb k 21) (Value k (getD (w .settings) k 0)) (Offset k (getD (w .shifts) (k - 21) (pos 0)))

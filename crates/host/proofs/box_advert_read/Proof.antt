@@ -8,11 +8,11 @@ use Rattle.host.proofs.box_advert_read.Tie as tie
 read-answer-requires : tie.Need-read-answer-requires
 read-answer-requires c κs = search needs
 
-number-of-requires : tie.Need-number-of-requires
-number-of-requires c κs = search needs
+answer-number-requires : tie.Need-answer-number-requires
+answer-number-requires c κs = search needs
 
 returns : tie.Need-returns
-returns c = c .number-of .ensures ∙ ap numberOf (c .before .read-answer .ensures)
+returns c = c .answer-number .ensures ∙ ap numberOf (c .before .read-answer .ensures)
 
 pub box-advert-read-spec : {M : Type 1} → statement M
-box-advert-read-spec = tie.close (tie.spec read-answer-requires number-of-requires returns)
+box-advert-read-spec = tie.close (tie.spec read-answer-requires answer-number-requires returns)

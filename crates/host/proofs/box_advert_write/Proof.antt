@@ -8,8 +8,8 @@ use Rattle.host.proofs.box_advert_write.Tie as tie
 write-advert-requires : tie.Need-write-advert-requires
 write-advert-requires c κs = search needs
 
-number-of-requires : tie.Need-number-of-requires
-number-of-requires c κs = search needs
+answer-number-requires : tie.Need-answer-number-requires
+answer-number-requires c κs = search needs
 
 same-length : tie.Need-same-length
 same-length c = search needs
@@ -17,8 +17,8 @@ same-length c = search needs
 returns : tie.Need-returns
 returns c =
     let w = c .before .before .before .write-advert .ensures in
-    record { answer = c .number-of .ensures ∙ ap numberOf (w .answer); area-after = w .area-after }
+    record { answer = c .answer-number .ensures ∙ ap numberOf (w .answer); area-after = w .area-after }
 
 pub box-advert-write-spec : {M : Type 1} → statement M
 box-advert-write-spec =
-    tie.close (tie.spec write-advert-requires number-of-requires same-length returns)
+    tie.close (tie.spec write-advert-requires answer-number-requires same-length returns)

@@ -39,18 +39,18 @@ use denote.Triple.Table.{entered, cited}
 use denote.Triple.Walked.{says, Stays, stay-ref, stay-none-slice, walkOf, AllGo, goes-ref, goes-none-slice, Walks, ends-at, walked, walk-meets}
 use denote.Triple.Clauses.{ensured, lasts}
 use denote.Exit.{yes}
-use Rattle.panels.specs.Configure.{configured}
+use Rattle.configure.specs.Configure.{configured}
 use Rattle.panels.specs.declared.DisplayBox.{DisplayBox}
 use Rattle.panels.proofs.DisplayBox as B
 use Rattle.panels.proofs.DisplayBox.Laws as B′
-use Rattle.ways.specs.Called.{madeOf}
-use Rattle.ways.specs.declared.Made.{Made}
-use Rattle.ways.proofs.Made as T
-use Rattle.ways.proofs.Made.Laws as T′
-use Rattle.ways.proofs.make_box as make
-use Rattle.ways.proofs.make_box.Symbol as make-symbol
-use Rattle.ways.proofs.make_box.Symbol.{name as #make-box}
-use Rattle.ways.proofs.make_box.Met as make-met
+use Rattle.host_box.specs.Called.{madeOf}
+use Rattle.host_box.specs.declared.Made.{Made}
+use Rattle.host_box.proofs.Made as T
+use Rattle.host_box.proofs.Made.Laws as T′
+use Rattle.host_box.proofs.make_box as make
+use Rattle.host_box.proofs.make_box.Symbol as make-symbol
+use Rattle.host_box.proofs.make_box.Symbol.{name as #make-box}
+use Rattle.host_box.proofs.make_box.Met as make-met
 use Rattle.host.proofs.box_configure.Key.{name as #box-configure}
 use Rattle.host.proofs.box_configure as conf
 use Rattle.host.proofs.box_configure.Statement as stated
@@ -167,4 +167,4 @@ box-configure-spec 𝓤 H 𝓜 𝓖 𝓡 =
     entered 𝓤 H (tripleOf 𝓤 H (𝓖 .A) conf.signature (conf.spec 𝓤 H (𝓖 .A) (𝓜 .mem) (𝓡 .run)))
     (tables 𝓤 H 𝓜 𝓡 code.env .C) (tables 𝓤 H 𝓜 𝓡 code.env .Λ) #box-configure code.function (code.unfolded 𝓤 H 𝓜 𝓡)
     (conf-meets 𝓤 H (𝓖 .A) (givenOf 𝓤 H 𝓜 𝓖) (𝓜 .mem) (𝓡 .run) (tablesOf 𝓤 H 𝓜 (tables 𝓤 H 𝓜 𝓡 code.env))
-    (cited 𝓤 H (Makes 𝓤 H (𝓖 .A) (𝓜 .mem) (𝓡 .run)) 𝓜 𝓡 code.env #make-box make-symbol.routine code.calls-ways·make-box (make-met.met 𝓤 H 𝓜 𝓖 𝓡)))
+    (cited 𝓤 H (Makes 𝓤 H (𝓖 .A) (𝓜 .mem) (𝓡 .run)) 𝓜 𝓡 code.env #make-box make-symbol.routine code.calls-host-box·make-box (make-met.met 𝓤 H 𝓜 𝓖 𝓡)))

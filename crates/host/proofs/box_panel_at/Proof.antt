@@ -42,11 +42,11 @@ use Rattle.panels.proofs.DisplayBox as B
 use Rattle.panels.proofs.DisplayBox.Laws as B′
 use Rattle.panels.proofs.Panel as P
 use Rattle.panels.proofs.Panel.Laws as P′
-use Rattle.ways.specs.Called.{panelBehind}
-use Rattle.ways.proofs.panel_behind as find
-use Rattle.ways.proofs.panel_behind.Symbol as find-symbol
-use Rattle.ways.proofs.panel_behind.Symbol.{name as #panel-behind}
-use Rattle.ways.proofs.panel_behind.Met as find-met
+use Rattle.host_box.specs.Called.{panelBehind}
+use Rattle.host_box.proofs.panel_behind as find
+use Rattle.host_box.proofs.panel_behind.Symbol as find-symbol
+use Rattle.host_box.proofs.panel_behind.Symbol.{name as #panel-behind}
+use Rattle.host_box.proofs.panel_behind.Met as find-met
 use Rattle.host.proofs.box_panel_at.Key.{name as #box-panel-at}
 use Rattle.host.proofs.box_panel_at as show
 use Rattle.host.proofs.box_panel_at.Statement as stated
@@ -161,4 +161,4 @@ box-panel-at-spec 𝓤 H 𝓜 𝓖 𝓡 =
     entered 𝓤 H (tripleOf 𝓤 H (𝓖 .A) show.signature (show.spec 𝓤 H (𝓖 .A) (𝓜 .mem) (𝓡 .run)))
     (tables 𝓤 H 𝓜 𝓡 code.env .C) (tables 𝓤 H 𝓜 𝓡 code.env .Λ) #box-panel-at code.function (code.unfolded 𝓤 H 𝓜 𝓡)
     (show-meets 𝓤 H (𝓖 .A) (givenOf 𝓤 H 𝓜 𝓖) (𝓜 .mem) (𝓡 .run) (tablesOf 𝓤 H 𝓜 (tables 𝓤 H 𝓜 𝓡 code.env))
-    (cited 𝓤 H (Finds 𝓤 H (𝓖 .A) (𝓜 .mem) (𝓡 .run)) 𝓜 𝓡 code.env #panel-behind find-symbol.routine code.calls-ways·panel-behind (find-met.met 𝓤 H 𝓜 𝓖 𝓡)))
+    (cited 𝓤 H (Finds 𝓤 H (𝓖 .A) (𝓜 .mem) (𝓡 .run)) 𝓜 𝓡 code.env #panel-behind find-symbol.routine code.calls-host-box·panel-behind (find-met.met 𝓤 H 𝓜 𝓖 𝓡)))

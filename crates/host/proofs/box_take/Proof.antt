@@ -42,14 +42,14 @@ use denote.Exit.{yes}
 use Rattle.panels.specs.declared.DisplayBox.{DisplayBox}
 use Rattle.panels.proofs.DisplayBox as B
 use Rattle.panels.proofs.DisplayBox.Laws as B′
-use Rattle.ways.specs.Called.{Called, called, takenOf}
-use Rattle.ways.specs.declared.Taken.{Taken}
-use Rattle.ways.proofs.Taken as T
-use Rattle.ways.proofs.Taken.Laws as T′
-use Rattle.ways.proofs.take_message as step
-use Rattle.ways.proofs.take_message.Symbol as step-symbol
-use Rattle.ways.proofs.take_message.Symbol.{name as #take-message}
-use Rattle.ways.proofs.take_message.Met as step-met
+use Rattle.host_box.specs.Called.{Called, called, takenOf}
+use Rattle.host_box.specs.declared.Taken.{Taken}
+use Rattle.host_box.proofs.Taken as T
+use Rattle.host_box.proofs.Taken.Laws as T′
+use Rattle.host_box.proofs.take_message as step
+use Rattle.host_box.proofs.take_message.Symbol as step-symbol
+use Rattle.host_box.proofs.take_message.Symbol.{name as #take-message}
+use Rattle.host_box.proofs.take_message.Met as step-met
 use Rattle.host.specs.declared.Outcome.{Outcome}
 use Rattle.host.proofs.Outcome as O
 use Rattle.host.proofs.Outcome.Laws as O′
@@ -193,4 +193,4 @@ box-take-spec 𝓤 H 𝓜 𝓖 𝓡 =
     entered 𝓤 H (tripleOf 𝓤 H (𝓖 .A) take.signature (take.spec 𝓤 H (𝓖 .A) (𝓜 .mem) (𝓡 .run)))
     (tables 𝓤 H 𝓜 𝓡 code.env .C) (tables 𝓤 H 𝓜 𝓡 code.env .Λ) #box-take code.function (code.unfolded 𝓤 H 𝓜 𝓡)
     (take-meets 𝓤 H (𝓖 .A) (givenOf 𝓤 H 𝓜 𝓖) (𝓜 .mem) (𝓡 .run) (tablesOf 𝓤 H 𝓜 (tables 𝓤 H 𝓜 𝓡 code.env))
-    (cited 𝓤 H (Step 𝓤 H (𝓖 .A) (𝓜 .mem) (𝓡 .run)) 𝓜 𝓡 code.env #take-message step-symbol.routine code.calls-ways·take-message (step-met.met 𝓤 H 𝓜 𝓖 𝓡)))
+    (cited 𝓤 H (Step 𝓤 H (𝓖 .A) (𝓜 .mem) (𝓡 .run)) 𝓜 𝓡 code.env #take-message step-symbol.routine code.calls-host-box·take-message (step-met.met 𝓤 H 𝓜 𝓖 𝓡)))

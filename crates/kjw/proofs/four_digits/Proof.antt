@@ -1,6 +1,6 @@
 -- `four_digits` sets the four last places of a word of zeros.
 use borrow.Author.Needs.{needs}
-use Rattle.numbers.specs.Decimals.{inDigits}
+use Rattle.decimals.specs.Decimals.{inDigits}
 use Rattle.kjw.proofs.four_digits.Statement.{statement}
 use Rattle.kjw.proofs.four_digits.Tie as tie
 

@@ -1,6 +1,6 @@
 -- `input_word` sets the type's digit before the port's four.
 use borrow.Author.Needs.{needs}
-use Rattle.numbers.specs.Decimals.{inDigits}
+use Rattle.decimals.specs.Decimals.{inDigits}
 use Rattle.kjw.specs.Frames.{inputWord}
 use Rattle.kjw.proofs.input_word.Statement.{statement}
 use Rattle.kjw.proofs.input_word.Tie as tie

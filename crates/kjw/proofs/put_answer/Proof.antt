@@ -6,7 +6,7 @@ use lib.ListN.{length}
 use borrow.Author.Needs.{needs}
 use Rattle.laws.specs.Bytes.{over, Sent}
 use Rattle.laws.proofs.Areas.{over-front}
-use Rattle.kjw.specs.Frames.{frameOf, typeAnswer}
+use Rattle.kjw_asks.specs.Frames.{frameOf, typeAnswer}
 use Rattle.kjw.proofs.Lengths.{frame-length}
 use Rattle.kjw.proofs.put_answer.Statement.{statement}
 use Rattle.kjw.proofs.put_answer.Tie as tie

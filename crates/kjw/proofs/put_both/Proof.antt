@@ -6,14 +6,15 @@ use lib.ListN.{length, length-append}
 use borrow.Author.Needs.{needs}
 use native.Mathlib.Omega.{arith}
 use Rattle.laws.proofs.Areas.{Laid, laid-next, over-front}
-use Rattle.kjw.specs.Frames.{frameOf, accepted}
+use Rattle.kjw_asks.specs.Frames.{frameOf}
+use Rattle.kjw.specs.Frames.{accepted}
 use Rattle.kjw.specs.Rules.{bytesOf}
 use Rattle.kjw.proofs.Lengths.{frame-length}
 use Rattle.kjw.proofs.put_both.Statement.{statement}
 use Rattle.kjw.proofs.put_both.Tie as tie
 
-name-of-requires : tie.Need-name-of-requires
-name-of-requires c κs = search needs
+state-letters-requires : tie.Need-state-letters-requires
+state-letters-requires c κs = search needs
 
 value-of-requires : tie.Need-value-of-requires
 value-of-requires c κs = search needs
@@ -33,21 +34,21 @@ returns c =
     let a = c .before .before .before .before .before .before .before .before .before .before .before .before .before .args in
     let l : length (a .letters) ≡ 4 = search needs in
     let f = frameOf 0x41 (a .letters) accepted in
-    let g = frameOf 0x4e (c .before .before .before .before .before .before .before .before .before .before .before .name-of .result) (c .before .before .before .before .before .before .before .before .before .before .value-of .result) in
-    let n : length (c .before .before .before .before .before .before .before .before .before .before .before .name-of .result) ≡ 4 = search needs in
+    let g = frameOf 0x4e (c .before .before .before .before .before .before .before .before .before .before .before .state-letters .result) (c .before .before .before .before .before .before .before .before .before .before .value-of .result) in
+    let n : length (c .before .before .before .before .before .before .before .before .before .before .before .state-letters .result) ≡ 4 = search needs in
     let v : length (c .before .before .before .before .before .before .before .before .before .before .value-of .result) ≡ 16 = search needs in
     let first = frame-length 0x41 (a .letters) accepted l refl in
-    let second = frame-length 0x4e (c .before .before .before .before .before .before .before .before .before .before .before .name-of .result) (c .before .before .before .before .before .before .before .before .before .before .value-of .result) n v in
+    let second = frame-length 0x4e (c .before .before .before .before .before .before .before .before .before .before .before .state-letters .result) (c .before .before .before .before .before .before .before .before .before .before .value-of .result) n v in
     let room = c .before .before .before .before .before .before .before .before .before .before .before .before .before .pre in
     let l₁ : Laid (a .area .now) (c .before .before .before .before .before .before .put-frame .last .0) 0 f 24 = record { is = c .before .before .before .before .before .before .put-frame .ensures; end = ap (λ (k : ℕ). 0 + k) first } in
     let l₂ = laid-next (c .before .before .put-frame2 .last .0) g 24 48 l₁ (c .before .before .put-frame2 .ensures) second refl (omega arith) in
-    rw (← c .before .before .before .before .before .before .before .before .before .before .before .name-of .ensures, ← c .before .before .before .before .before .before .before .before .before .before .value-of .ensures) (record { length-is = sym (length-append f g ∙ rw (first, second)); area-is = l₂ .is ∙ over-front (a .area .now) (f ++ g) })
+    rw (← c .before .before .before .before .before .before .before .before .before .before .before .state-letters .ensures, ← c .before .before .before .before .before .before .before .before .before .before .value-of .ensures) (record { length-is = sym (length-append f g ∙ rw (first, second)); area-is = l₂ .is ∙ over-front (a .area .now) (f ++ g) })
 
 pub put-both-spec : {M : Type 1} → statement M
 put-both-spec =
     tie.close
     (tie.spec
-    name-of-requires
+    state-letters-requires
     value-of-requires
     put-frame-requires
     put-frame-requires-2

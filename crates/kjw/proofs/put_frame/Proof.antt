@@ -6,7 +6,7 @@ use lib.ListN.{length}
 use borrow.Author.Needs.{needs}
 use native.Mathlib.Omega.{arith}
 use Rattle.laws.proofs.Areas.{laid-first, laid-more}
-use Rattle.kjw.specs.Frames.{frameOf}
+use Rattle.kjw_asks.specs.Frames.{frameOf}
 use Rattle.kjw.proofs.put_frame.Statement.{statement}
 use Rattle.kjw.proofs.put_frame.Tie as tie
 

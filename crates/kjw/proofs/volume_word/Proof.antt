@@ -3,7 +3,7 @@ use Prim.Native.Nat.{_<_}
 use mathlib.Core.Path.{sym, _∙_}
 use borrow.Author.Needs.{needs}
 use native.Mathlib.Omega.{arith}
-use Rattle.numbers.proofs.Decimals.{three-digits}
+use Rattle.decimals.proofs.Decimals.{three-digits}
 use Rattle.kjw.proofs.volume_word.Statement.{statement}
 use Rattle.kjw.proofs.volume_word.Tie as tie
 

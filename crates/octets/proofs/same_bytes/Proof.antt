@@ -5,7 +5,6 @@ use lib.ListN.{length, drop}
 use borrow.Author.Tests.{eq-eqb, ne-eqb}
 use borrow.Author.Needs.{needs}
 use native.Mathlib.Omega.{arith}
-use denote.Ref.{now}
 use Rattle.laws.specs.Bytes.{same}
 use Rattle.laws.proofs.Lists.{behind, same-from, other-length}
 use Rattle.octets.proofs.same_bytes.Statement.{statement}

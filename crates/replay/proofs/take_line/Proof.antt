@@ -5,8 +5,8 @@ use mathlib.Core.List.{List}
 use native.Mathlib.Omega.{arith}
 use lib.ListN.{length, take, drop, length-take, length-drop}
 use lib.Seq.{length-take-le}
-use Rattle.texts.specs.Puts.{Puts}
-use Rattle.texts.proofs.Puts.{puts-end}
+use Rattle.script_text.specs.Puts.{Puts}
+use Rattle.script_text.proofs.Puts.{puts-end}
 use borrow.Author.Needs.{needs}
 use Rattle.replay.proofs.take_line.Statement.{statement}
 use Rattle.replay.proofs.take_line.Tie as tie

@@ -7,10 +7,10 @@ use lib.ListN.{length}
 use mathlib.Core.List.{List}
 use mathlib.Core.Bool.{true}
 use borrow.Author.Tests.{not-false}
-use Rattle.texts.proofs.Puts.{puts-end, puts-length}
-use Rattle.pieces.specs.Parts.{Takes}
-use Rattle.pieces.specs.declared.Part.{Part}
-use Rattle.pieces.proofs.Parts.{next-ended}
+use Rattle.script_text.proofs.Puts.{puts-end, puts-length}
+use Rattle.script_pieces.specs.Parts.{Takes}
+use Rattle.script_pieces.specs.declared.Part.{Part}
+use Rattle.script_pieces.proofs.Parts.{next-ended}
 use Rattle.replay.proofs.take_piece.Statement.{statement}
 use Rattle.replay.proofs.take_piece.Tie as tie
 

@@ -9,7 +9,7 @@ use native.Mathlib.Omega.{arith}
 use lib.IntN.{ℤ, pos}
 use mir.Syntax.{w16}
 use mir.Facts.{toZ-ofZ}
-use Rattle.rs232c.specs.Frames.{valuesOf}
+use Rattle.rs232c_asks.specs.Asks.{valuesOf}
 use Rattle.rs232c.specs.Orders.{Say, silent, say, said, decode, biasOf, put, puts}
 use lib.Count.{ones}
 use Rattle.rs232c.proofs.Signed.{bias-fits}

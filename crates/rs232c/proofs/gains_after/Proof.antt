@@ -6,7 +6,7 @@ use lib.ListN.{length, getD, take}
 use lib.Seq.{getD-take}
 use borrow.Author.Needs.{needs}
 use native.Mathlib.Omega.{arith}
-use Rattle.rs232c.specs.Frames.{valuesOf}
+use Rattle.rs232c_asks.specs.Asks.{valuesOf}
 use Rattle.rs232c.specs.Orders.{Say, silent, said, decode, gainOf, put, puts}
 use Rattle.rs232c.proofs.Decode.{decode-at, puts-length, puts-at, three-are}
 use native.Mathlib.Nat.{div-one, mod-one}

@@ -3,11 +3,11 @@ use Prim.Native.Nat.{ℕ}
 use mathlib.Core.Path.{_≡_, refl, sym, ap, subst, _∙_}
 use mathlib.Core.List.{List}
 use borrow.Author.Needs.{needs}
-use Rattle.rs232c.specs.Frames.{heardOf, valuesOf}
+use Rattle.rs232c_asks.specs.Asks.{heardOf, valuesOf}
 use Rattle.laws.specs.Bytes.{Sent}
 use Rattle.rs232c.specs.Replies.{bytesOf, turned, turnOf}
 use Rattle.turns.proofs.Turns.{takes-small, takes-turn}
-use Rattle.rs232c.specs.declared.Heard.{Heard}
+use Rattle.rs232c_asks.specs.declared.Heard.{Heard}
 use Rattle.rs232c.specs.declared.Reply.{Reply}
 use Rattle.panels.specs.declared.WRecord.{WRecord}
 use Rattle.rs232c.proofs.take_frame.Statement.{statement}

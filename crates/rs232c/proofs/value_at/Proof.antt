@@ -6,7 +6,7 @@ use lib.ListN.{getD, drop}
 use lib.Seq.{getD-drop}
 use borrow.Author.Needs.{needs}
 use native.Mathlib.Omega.{arith}
-use Rattle.rs232c.specs.Frames.{words, valuesOf}
+use Rattle.rs232c_asks.specs.Asks.{words, valuesOf}
 use Rattle.rs232c.proofs.value_at.Statement.{statement}
 use Rattle.rs232c.proofs.value_at.Tie as tie
 

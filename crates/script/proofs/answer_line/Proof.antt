@@ -1,8 +1,8 @@
 -- `answer_line` does what the order of the line does.
 use mathlib.Core.Path.{refl, sym, _∙_}
-use Rattle.texts.proofs.Puts.{puts-none}
-use Rattle.orders.specs.Answers.{ordered}
-use Rattle.orders.proofs.Carried.{by-order}
+use Rattle.script_text.proofs.Puts.{puts-none}
+use Rattle.script_orders.specs.Answers.{ordered}
+use Rattle.script_orders.proofs.Carried.{by-order}
 use borrow.Author.Needs.{needs}
 use Rattle.script.proofs.answer_line.Statement.{statement}
 use Rattle.script.proofs.answer_line.Tie as tie

@@ -2,7 +2,7 @@
 use mathlib.Core.Path.{sym}
 use borrow.Author.Tests.{not-true, not-false}
 use borrow.Author.Needs.{needs}
-use Rattle.sdap.specs.Rules.{areTexts, left}
+use Rattle.sdap.specs.Rules.{areTexts}
 use Rattle.sdap.proofs.are_texts.Statement.{statement}
 use Rattle.sdap.proofs.are_texts.Tie as tie
 

@@ -1,6 +1,6 @@
 -- `is_category` asks the listed categories in turn.
 use borrow.Author.Tests.{eq-eqb, ne-eqb}
-use Rattle.sdap.specs.Rules.{isCategory, left}
+use Rattle.sdap.specs.Rules.{isCategory}
 use mathlib.Core.Bool.{or-false}
 use Rattle.sdap.proofs.is_category.Statement.{statement}
 use Rattle.sdap.proofs.is_category.Tie as tie

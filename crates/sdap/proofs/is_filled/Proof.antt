@@ -2,7 +2,7 @@
 use mathlib.Core.Path.{sym}
 use borrow.Author.Tests.{le-leb, lt-leb}
 use borrow.Author.Needs.{needs}
-use Rattle.sdap.specs.Rules.{isFilled, left}
+use Rattle.sdap.specs.Rules.{isFilled}
 use Rattle.sdap.proofs.is_filled.Statement.{statement}
 use Rattle.sdap.proofs.is_filled.Tie as tie
 

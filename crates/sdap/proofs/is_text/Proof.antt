@@ -9,10 +9,9 @@ use lib.Dec.{eqb}
 use borrow.Author.Tests.{eq-eqb, ne-eqb}
 use borrow.Author.Needs.{needs}
 use native.Mathlib.Omega.{arith}
-use denote.Ref.{now}
 use Rattle.laws.specs.Lists.{every}
 use Rattle.laws.proofs.Lists.{from, behind}
-use Rattle.sdap.specs.Rules.{isText, left}
+use Rattle.sdap.specs.Rules.{isText}
 use Rattle.sdap.proofs.is_text.Statement.{statement}
 use Rattle.sdap.proofs.is_text.Tie as tie
 

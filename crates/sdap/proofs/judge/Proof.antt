@@ -2,7 +2,7 @@
 use mathlib.Core.Path.{sym}
 use borrow.Author.Tests.{not-true, not-false}
 use borrow.Author.Needs.{needs}
-use Rattle.sdap.specs.Rules.{verdict, left}
+use Rattle.sdap.specs.Rules.{verdict}
 use Rattle.sdap.proofs.judge.Statement.{statement}
 use Rattle.sdap.proofs.judge.Tie as tie
 

@@ -6,9 +6,8 @@ use lib.ListN.{length, getD, drop}
 use borrow.Author.Tests.{eq-eqb, ne-eqb}
 use borrow.Author.Needs.{needs}
 use native.Mathlib.Omega.{arith}
-use denote.Ref.{now}
 use Rattle.laws.proofs.Lists.{from, behind}
-use Rattle.sdap.specs.Rules.{left, beforeZero, textLength}
+use Rattle.sdap.specs.Rules.{beforeZero, textLength}
 use Rattle.sdap.proofs.text_length.Statement.{statement}
 use Rattle.sdap.proofs.text_length.Tie as tie
 

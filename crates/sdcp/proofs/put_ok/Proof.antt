@@ -6,8 +6,8 @@ use lib.ListN.{length}
 use borrow.Author.Needs.{needs}
 use native.Mathlib.Omega.{arith}
 use Rattle.laws.specs.Bytes.{Sent}
-use Rattle.vmc.specs.Texts.{textOf}
-use Rattle.vmc.proofs.Phrases.{text-front, text-length, text-fits}
+use Rattle.vmc_tells.specs.Texts.{textOf}
+use Rattle.vmc_tells.proofs.Phrases.{text-front, text-length, text-fits}
 use Rattle.sdcp.specs.Replies.{packetOf, bytesOf}
 use Rattle.sdcp.proofs.put_ok.Statement.{statement}
 use Rattle.sdcp.proofs.put_ok.Tie as tie

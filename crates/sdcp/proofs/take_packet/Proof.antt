@@ -7,8 +7,8 @@ use native.Mathlib.Omega.{arith}
 use Rattle.laws.specs.Bytes.{Sent}
 use Rattle.turns.proofs.Turns.{takes-small, takes-turn}
 use Rattle.panels.specs.declared.WRecord.{WRecord}
-use Rattle.vmc.specs.declared.Told.{Told}
-use Rattle.sdcp_asks.specs.Packets.{heardOf}
+use Rattle.vmc_tells.specs.declared.Says.{Says}
+use Rattle.sdcp_asks.specs.Asks.{heardOf}
 use Rattle.sdcp.specs.Replies.{bytesOf, turned, turnOf}
 use Rattle.sdcp_asks.specs.declared.Heard.{Heard}
 use Rattle.sdcp.specs.declared.Reply.the-variants.{Ok}
@@ -91,7 +91,7 @@ returns-5 : tie.Need-returns-5
 unfolding turned
 returns-5 c =
     let a = c .before .before .before .before .before .before .before .before .before .before .before .before .before .args in
-    takes-turn (turnOf (a .m .now)) (a .w) (a .area .now) _ _ _ _ _ (c .before .before .before .before .before .before .before .before .before .before .if1 .left) (asked (a .m .now) (a .w) (c .before .before .before .before .before .before .before .before .before .hear .result) _ (c .before .before .before .before .before .before .before .before .before .hear .ensures) (c .before .before .before .before .before .before .before .ask2 .given .1)) (c .before .before .before .before .before .obey .ensures) refl (subst (λ (t : Told). Sent (bytesOf (a .m .now) (Ok t)) (c .before .before .put-ok2 .result) (a .area .now) (c .before .before .put-ok2 .last .1 .1 .0)) (c .before .before .before .before .tell .ensures) (c .before .before .put-ok2 .ensures))
+    takes-turn (turnOf (a .m .now)) (a .w) (a .area .now) _ _ _ _ _ (c .before .before .before .before .before .before .before .before .before .before .if1 .left) (asked (a .m .now) (a .w) (c .before .before .before .before .before .before .before .before .before .hear .result) _ (c .before .before .before .before .before .before .before .before .before .hear .ensures) (c .before .before .before .before .before .before .before .ask2 .given .1)) (c .before .before .before .before .before .obey .ensures) refl (subst (λ (t : Says). Sent (bytesOf (a .m .now) (Ok t)) (c .before .before .put-ok2 .result) (a .area .now) (c .before .before .put-ok2 .last .1 .1 .0)) (c .before .before .before .before .tell .ensures) (c .before .before .put-ok2 .ensures))
 
 pub take-packet-spec : {M : Type 1} → statement M
 take-packet-spec =

@@ -3,9 +3,9 @@ use mathlib.Core.Path.{_≡_, sym, ap, _∙_}
 use borrow.Author.Tests.{lt-ltb, le-ltb, not-true, not-false}
 use borrow.Author.Needs.{needs}
 use Rattle.laws.proofs.Lists.{rest}
-use Rattle.vmc.specs.Reading.{readData}
-use Rattle.vmc.specs.declared.Words.the-variants.{Understood, Strange}
-use Rattle.sdcp_asks.specs.Packets.{inWords, dataOf, heardOf}
+use Rattle.vmc_asks.specs.Asks.{readData}
+use Rattle.vmc_asks.specs.declared.Words.the-variants.{Understood, NotUnderstood}
+use Rattle.sdcp_asks.specs.Asks.{inWords, dataOf, heardOf}
 use Rattle.sdcp_asks.proofs.hear.Statement.{statement}
 use Rattle.sdcp_asks.proofs.hear.Tie as tie
 
@@ -49,7 +49,7 @@ returns-4 : tie.Need-returns-4
 unfolding heardOf
 returns-4 c =
     let m = c .before .before .before .before .before .before .before .before .before .before .args .m .now in
-    let e : readData (dataOf m) ≡ Strange = ap readData (sym (rest m 13)) ∙ sym (c .before .before .read-data .ensures) ∙ c .enum-told .given .1 in
+    let e : readData (dataOf m) ≡ NotUnderstood = ap readData (sym (rest m 13)) ∙ sym (c .before .before .read-data .ensures) ∙ c .enum-told .given .1 in
     sym (rw (le-ltb _ _ (c .before .before .before .before .before .before .before .before .if1 .left), ← c .before .before .before .before .before .before .before .is-ours .ensures, not-false (c .before .before .before .before .before .before .before .is-ours .result) (c .before .before .before .before .before .before .if2 .left), ← c .before .before .before .before .before .is-broken .ensures, c .before .before .before .before .if3 .left) (ap inWords e))
 
 returns-5 : tie.Need-returns-5

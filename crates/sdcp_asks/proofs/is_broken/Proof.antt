@@ -2,7 +2,7 @@
 use mathlib.Core.Path.{sym}
 use borrow.Author.Tests.{eq-eqb, ne-eqb, lt-ltb, le-ltb}
 use borrow.Author.Needs.{needs}
-use Rattle.sdcp_asks.specs.Packets.{isBroken}
+use Rattle.sdcp_asks.specs.Asks.{isBroken}
 use Rattle.sdcp_asks.proofs.is_broken.Statement.{statement}
 use Rattle.sdcp_asks.proofs.is_broken.Tie as tie
 

@@ -1,6 +1,6 @@
 -- `is_ours` compares the front.
 use borrow.Author.Needs.{needs}
-use Rattle.sdcp_asks.specs.Packets.{isOurs}
+use Rattle.sdcp_asks.specs.Asks.{isOurs}
 use Rattle.sdcp_asks.proofs.is_ours.Statement.{statement}
 use Rattle.sdcp_asks.proofs.is_ours.Tie as tie
 

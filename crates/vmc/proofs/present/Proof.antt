@@ -9,8 +9,8 @@ use native.Mathlib.Omega.{arith}
 use mir.Syntax.{w8}
 use mir.Val.{toZ, ofZ}
 use mir.Facts.{toZ-ofZ}
-use Rattle.vmc.specs.Orders.{toldOf}
-use Rattle.vmc.specs.declared.Told.the-variants.{Offset}
+use Rattle.vmc.specs.Orders.{saysOf}
+use Rattle.vmc_tells.specs.declared.Says.the-variants.{Offset}
 use Rattle.vmc.proofs.present.Statement.{statement}
 use Rattle.vmc.proofs.present.Tie as tie
 
@@ -18,11 +18,11 @@ array-read-t9 : tie.Need-array-read-t9
 array-read-t9 c = search needs
 
 returns : tie.Need-returns
-unfolding toldOf
+unfolding saysOf
 returns c = sym (rw (lt-ltb _ _ (c .before .if1 .taken)))
 
 returns-2 : tie.Need-returns-2
-unfolding toldOf
+unfolding saysOf
 returns-2 c =
     let a = c .before .before .args in
     let l : length (a .w .shifts) ≡ 2 = search needs in
@@ -33,7 +33,7 @@ array-copy-out-t12 : tie.Need-array-copy-out-t12
 array-copy-out-t12 c = search needs
 
 returns-3 : tie.Need-returns-3
-unfolding toldOf
+unfolding saysOf
 returns-3 c =
     let a = c .before .before .before .before .args in
     let z = getD (a .w .shifts) (a .k - 21) (pos 0) in

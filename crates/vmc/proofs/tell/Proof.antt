@@ -1,6 +1,6 @@
 -- `tell` goes by the order.
 use borrow.Author.Needs.{needs}
-use Rattle.vmc.specs.Orders.{toldOf}
+use Rattle.vmc.specs.Orders.{saysOf}
 use Rattle.vmc.proofs.tell.Statement.{statement}
 use Rattle.vmc.proofs.tell.Tie as tie
 
@@ -20,15 +20,15 @@ present-requires : tie.Need-present-requires
 present-requires c κs = search needs
 
 returns : tie.Need-returns
-unfolding toldOf
+unfolding saysOf
 returns c = rw (c .enum-told .given .1)
 
 returns-2 : tie.Need-returns-2
-unfolding toldOf
+unfolding saysOf
 returns-2 c = rw (c .enum-told2 .given .1)
 
 returns-3 : tie.Need-returns-3
-unfolding toldOf
+unfolding saysOf
 returns-3 c = rw (c .enum-told3 .given .1)
 
 returns-4 : tie.Need-returns-4

@@ -1,0 +1,170 @@
+-- A valid panel stays valid, and an answer that is not 0 leaves it as it was: only orders in their ranges are understood.
+use mathlib.Core.Path.{_≡_, refl}
+use mathlib.Core.Bool.{Bool, true, not, _&&_}
+use mathlib.Core.List.{List}
+use Prim.Native.Nat.{ℕ, _-_}
+use native.Mathlib.Omega.{arith}
+use lib.ListN.{length, getD}
+use lib.Dec.{eqb, leb}
+use borrow.Author.Tests.{eqb-true, le-leb, not-false}
+use Rattle.laws.specs.Bytes.{ascii, part, same}
+use Rattle.laws.specs.Lists.{listed}
+use Rattle.laws.proofs.Conditions.{and-first, and-second, and-both, choose}
+use Rattle.laws.proofs.Lists.{part-length, listed-every}
+use Rattle.terms.specs.declared.Answer.the-variants.{WrongLength, NotForUs}
+use Rattle.turns.specs.Turns.{Turn, taken}
+use Rattle.turns.proofs.Turns.{either}
+use Rattle.panels.specs.Records.{kinds}
+use Rattle.panels.specs.Valid.{okInput, okK}
+use Rattle.panels.specs.declared.KRecord.{KRecord}
+use Rattle.decimals.specs.Decimals.{decimal}
+use Rattle.kjw_asks.specs.Frames.{lettersOf, typeControl, blank, stateLetters}
+use Rattle.kjw_asks.specs.Asks.{switchOf, sceneOf, isVolume, isInput, upTo, volumeOrder, inputOrder, toggleOf, controlOf, enquiryOf, isOurs, heardOf}
+use Rattle.kjw.specs.Rules.{flipped, carried, decided, turnOf}
+use Rattle.kjw_asks.specs.declared.State.the-variants.{Power, AudioMute, PictureMute, Volume, Input, Scene}
+use Rattle.kjw_asks.specs.declared.Order.{Order}
+use Rattle.kjw_asks.specs.declared.Order.the-variants.{SetPower, TogglePower, SetAudioMute, SetPictureMute, TogglePictureMute, SetVolume, SetInput, SetScene, Ask}
+use Rattle.kjw_asks.specs.declared.Heard.{Heard}
+use Rattle.kjw_asks.specs.declared.Heard.the-variants.{Refused, NotUnderstood, Understood}
+use Rattle.kjw_asks.proofs.Parameters.{volume-most, Inputs, input-is, port-most}
+
+-- an order whose numbers are in their ranges
+abbrev inRange : Order → Bool
+inRange (SetPower v) = leb v 1
+inRange TogglePower = true
+inRange (SetAudioMute v) = leb v 1
+inRange (SetPictureMute v) = leb v 1
+inRange TogglePictureMute = true
+inRange (SetVolume v) = leb v 100
+inRange (SetInput kind port) = okInput kind port
+inRange (SetScene v) = leb v 2
+inRange (Ask s) = true
+
+abbrev sound : Heard → Bool
+sound (Refused a) = true
+sound NotUnderstood = true
+sound (Understood o) = inRange o
+
+abbrev Sound : Heard → Type 0
+Sound h = sound h ≡ true
+
+up-to-sound : (most v : ℕ) (o : Order) → (leb v most ≡ true → inRange o ≡ true) → Sound (upTo most v o)
+unfolding upTo
+up-to-sound most v o h = choose Sound (leb v most) (Understood o) NotUnderstood h (λ e. refl)
+
+volume-sound : (p : List ℕ) → Sound (volumeOrder p)
+unfolding volumeOrder
+volume-sound p = choose Sound (isVolume p) (Understood (SetVolume (decimal p))) NotUnderstood (λ e. le-leb (decimal p) 100 (volume-most p e)) (λ e. refl)
+
+input-ok : (p : List ℕ) → length p ≡ 16 → Inputs p → okInput (getD p 7 0 - 0x30) (decimal (part 12 4 p)) ≡ true
+unfolding okInput
+input-ok p h i =
+    let port = decimal (part 12 4 p) in
+    let kind : listed kinds (getD p 7 0 - 0x30) ≡ true = listed-every (λ (x : ℕ). listed kinds (x - 0x30)) (ascii "1345") (getD p 7 0) refl (i .kind) in
+    and-both (listed kinds (getD p 7 0 - 0x30) && leb 1 port) (leb port 9999) (and-both (listed kinds (getD p 7 0 - 0x30)) (leb 1 port) kind (le-leb 1 port (i .port))) (le-leb port 9999 (port-most p h (i .digits)))
+
+input-sound : (p : List ℕ) → length p ≡ 16 → Sound (inputOrder p)
+unfolding inputOrder
+input-sound p h = choose Sound (isInput p) (Understood (SetInput (getD p 7 0 - 0x30) (decimal (part 12 4 p)))) NotUnderstood (λ e. input-ok p h (input-is p e)) (λ e. refl)
+
+toggle-sound : (l p : List ℕ) → Sound (toggleOf l p)
+unfolding toggleOf
+toggle-sound l p =
+    choose Sound (not (same p blank)) NotUnderstood _ (λ e. refl)
+    (λ e. choose Sound (same l (ascii "TPOW")) (Understood TogglePower) _ (λ f. refl)
+    (λ f. choose Sound (same l (ascii "TPMU")) (Understood TogglePictureMute) NotUnderstood (λ g. refl) (λ g. refl)))
+
+control-sound : (l p : List ℕ) → length p ≡ 16 → Sound (controlOf l p)
+unfolding controlOf
+control-sound l p h =
+    choose Sound (same l (stateLetters Power)) (upTo 1 (switchOf p) (SetPower (switchOf p))) _ (λ e. up-to-sound 1 (switchOf p) (SetPower (switchOf p)) (λ f. f))
+    (λ e. choose Sound (same l (stateLetters AudioMute)) (upTo 1 (switchOf p) (SetAudioMute (switchOf p))) _ (λ e. up-to-sound 1 (switchOf p) (SetAudioMute (switchOf p)) (λ f. f))
+    (λ e. choose Sound (same l (stateLetters PictureMute)) (upTo 1 (switchOf p) (SetPictureMute (switchOf p))) _ (λ e. up-to-sound 1 (switchOf p) (SetPictureMute (switchOf p)) (λ f. f))
+    (λ e. choose Sound (same l (stateLetters Volume)) (volumeOrder p) _ (λ e. volume-sound p)
+    (λ e. choose Sound (same l (stateLetters Input)) (inputOrder p) _ (λ e. input-sound p h)
+    (λ e. choose Sound (same l (stateLetters Scene)) (upTo 2 (sceneOf p) (SetScene (sceneOf p))) _ (λ e. up-to-sound 2 (sceneOf p) (SetScene (sceneOf p)) (λ f. f))
+    (λ e. toggle-sound l p))))))
+
+enquiry-sound : (l p : List ℕ) → Sound (enquiryOf l p)
+unfolding enquiryOf
+enquiry-sound l p =
+    choose Sound (not (same p blank)) NotUnderstood _ (λ e. refl)
+    (λ e. choose Sound (same l (stateLetters Power)) (Understood (Ask Power)) _ (λ e. refl)
+    (λ e. choose Sound (same l (stateLetters AudioMute)) (Understood (Ask AudioMute)) _ (λ e. refl)
+    (λ e. choose Sound (same l (stateLetters PictureMute)) (Understood (Ask PictureMute)) _ (λ e. refl)
+    (λ e. choose Sound (same l (stateLetters Volume)) (Understood (Ask Volume)) _ (λ e. refl)
+    (λ e. choose Sound (same l (stateLetters Input)) (Understood (Ask Input)) _ (λ e. refl)
+    (λ e. choose Sound (same l (stateLetters Scene)) (Understood (Ask Scene)) NotUnderstood (λ e. refl) (λ e. refl)))))))
+
+heard-sound : (m : List ℕ) → Sound (heardOf m)
+unfolding heardOf
+heard-sound m =
+    choose Sound (not (eqb (length m) 24)) (Refused WrongLength) _ (λ e. refl)
+    (λ e. let n : length m ≡ 24 = eqb-true (length m) 24 (not-false (eqb (length m) 24) e) in
+    choose Sound (not (isOurs m)) (Refused NotForUs) _ (λ f. refl)
+    (λ f. choose Sound (eqb (getD m 2 0) typeControl) (controlOf (lettersOf m) (part 7 16 m)) (enquiryOf (lettersOf m) (part 7 16 m)) (λ g. control-sound (lettersOf m) (part 7 16 m) (part-length 7 16 m (omega arith))) (λ g. enquiry-sound (lettersOf m) (part 7 16 m))))
+
+-- a valid panel, setting by setting
+record Settings (k : KRecord) : Type 0 where
+  powered : leb (k .power) 1 ≡ true
+  sound-muted : leb (k .amut) 1 ≡ true
+  picture-muted : leb (k .pmut) 1 ≡ true
+  loud : leb (k .volume) 100 ≡ true
+  staged : leb (k .scene) 2 ≡ true
+  fed : okInput (k .kind) (k .port) ≡ true
+
+apart : (k : KRecord) → okK k ≡ true → Settings k
+unfolding okK
+apart k e =
+    let p = leb (k .power) 1 in
+    let a = leb (k .amut) 1 in
+    let q = leb (k .pmut) 1 in
+    let v = leb (k .volume) 100 in
+    let s = leb (k .scene) 2 in
+    let i = okInput (k .kind) (k .port) in
+    let e₁ = and-first (p && a && q && v && s) i e in
+    let e₂ = and-first (p && a && q && v) s e₁ in
+    let e₃ = and-first (p && a && q) v e₂ in
+    let e₄ = and-first (p && a) q e₃ in record {
+      powered = and-first p a e₄;
+      sound-muted = and-second p a e₄;
+      picture-muted = and-second (p && a) q e₃;
+      loud = and-second (p && a && q) v e₂;
+      staged = and-second (p && a && q && v) s e₁;
+      fed = and-second (p && a && q && v && s) i e;
+    }
+
+together : (k : KRecord) → Settings k → okK k ≡ true
+unfolding okK
+together k w = rw (w .powered, w .sound-muted, w .picture-muted, w .loud, w .staged, w .fed)
+
+flipped-ok : (v : ℕ) → leb (flipped v) 1 ≡ true
+unfolding flipped
+flipped-ok v = choose (λ (x : ℕ). leb x 1 ≡ true) (eqb v 0) 1 0 (λ e. refl) (λ e. refl)
+
+carried-keeps : (o : Order) (k : KRecord) → inRange o ≡ true → Settings k → Settings (carried o k)
+unfolding carried
+carried-keeps (SetPower v) k r w = record { powered = r; sound-muted = w .sound-muted; picture-muted = w .picture-muted; loud = w .loud; staged = w .staged; fed = w .fed }
+carried-keeps TogglePower k r w = record { powered = flipped-ok (k .power); sound-muted = w .sound-muted; picture-muted = w .picture-muted; loud = w .loud; staged = w .staged; fed = w .fed }
+carried-keeps (SetAudioMute v) k r w = record { powered = w .powered; sound-muted = r; picture-muted = w .picture-muted; loud = w .loud; staged = w .staged; fed = w .fed }
+carried-keeps (SetPictureMute v) k r w = record { powered = w .powered; sound-muted = w .sound-muted; picture-muted = r; loud = w .loud; staged = w .staged; fed = w .fed }
+carried-keeps TogglePictureMute k r w = record { powered = w .powered; sound-muted = w .sound-muted; picture-muted = flipped-ok (k .pmut); loud = w .loud; staged = w .staged; fed = w .fed }
+carried-keeps (SetVolume v) k r w = record { powered = w .powered; sound-muted = w .sound-muted; picture-muted = w .picture-muted; loud = r; staged = w .staged; fed = w .fed }
+carried-keeps (SetInput kind port) k r w = record { powered = w .powered; sound-muted = w .sound-muted; picture-muted = w .picture-muted; loud = w .loud; staged = w .staged; fed = r }
+carried-keeps (SetScene v) k r w = record { powered = w .powered; sound-muted = w .sound-muted; picture-muted = w .picture-muted; loud = w .loud; staged = r; fed = w .fed }
+carried-keeps (Ask s) k r w = w
+
+turn-valid : (h : Heard) (k : KRecord) → sound h ≡ true → okK k ≡ true → okK (decided k h .k) ≡ true
+unfolding decided
+turn-valid (Refused a) k s v = v
+turn-valid NotUnderstood k s v = v
+turn-valid (Understood o) k s v = together (carried o k) (carried-keeps o k s (apart k v))
+
+-- a valid panel is valid after every message
+pub turned-valid : (m : List ℕ) (k : KRecord) → okK k ≡ true → okK (turnOf m k .after) ≡ true
+unfolding turnOf
+turned-valid m k v = turn-valid (heardOf m) k (heard-sound m) v
+
+-- both at the door, where the area may be too small
+pub taken-valid : (room : ℕ) (m : List ℕ) (k : KRecord) → okK k ≡ true → okK (taken room (turnOf m) k .after) ≡ true
+taken-valid room m k v = either (λ (t : Turn KRecord). okK (t .after) ≡ true) room (turnOf m) k v (turned-valid m k v)

@@ -1,9 +1,0 @@
-pub mod Areas
-pub mod Configurations
-pub mod Determined
-pub mod Examples
-pub mod Hex
-pub mod Laws
-pub mod Orders
-pub mod Shapes
-pub mod Words

@@ -1,0 +1,64 @@
+-- `hear` gives the first refusal that applies, and else the command.
+use mathlib.Core.Path.{sym}
+use borrow.Author.Tests.{lt-ltb, le-ltb}
+use borrow.Author.Needs.{needs}
+use Rattle.rs232c_asks.specs.Asks.{heardOf}
+use Rattle.rs232c_asks.proofs.hear.Statement.{statement}
+use Rattle.rs232c_asks.proofs.hear.Tie as tie
+
+returns : tie.Need-returns
+unfolding heardOf
+returns c = sym (rw (lt-ltb _ _ (c .if1 .taken)))
+
+is-foreign-requires : tie.Need-is-foreign-requires
+is-foreign-requires c κs = search needs
+
+returns-2 : tie.Need-returns-2
+unfolding heardOf
+returns-2 c = sym (rw (le-ltb _ _ (c .before .before .if1 .left), ← c .before .is-foreign .ensures, c .if2 .taken))
+
+byte-at-requires : tie.Need-byte-at-requires
+byte-at-requires c κs = search needs
+
+is-broken-requires : tie.Need-is-broken-requires
+is-broken-requires c κs = search needs
+
+returns-3 : tie.Need-returns-3
+unfolding heardOf
+returns-3 c = sym (rw (le-ltb _ _ (c .before .before .before .before .before .if1 .left), ← c .before .before .before .before .is-foreign .ensures, c .before .before .before .if2 .left, ← c .before .is-broken .ensures, c .if3 .taken, ← c .before .before .byte-at .ensures))
+
+byte-at-requires-2 : tie.Need-byte-at-requires-2
+byte-at-requires-2 c κs = search needs
+
+sub-command-of : tie.Need-sub-command-of
+sub-command-of c = search needs
+
+byte-at-requires-3 : tie.Need-byte-at-requires-3
+byte-at-requires-3 c κs = search needs
+
+byte-at-requires-4 : tie.Need-byte-at-requires-4
+byte-at-requires-4 c κs = search needs
+
+command-of-requires : tie.Need-command-of-requires
+command-of-requires c κs = search needs
+
+returns-4 : tie.Need-returns-4
+unfolding heardOf
+returns-4 c = sym (rw (le-ltb _ _ (c .before .before .before .before .before .before .before .before .before .if1 .left), ← c .before .before .before .before .before .before .before .before .is-foreign .ensures, c .before .before .before .before .before .before .before .if2 .left, ← c .before .before .before .before .before .is-broken .ensures, c .before .before .before .before .if3 .left, ← c .before .before .before .before .before .before .byte-at .ensures, ← c .before .before .before .byte-at2 .ensures, ← c .before .before .byte-at3 .ensures, ← c .before .byte-at4 .ensures) (sym (c .command-of .ensures)))
+
+pub hear-spec : {M : Type 1} → statement M
+hear-spec =
+    tie.close
+    (tie.spec
+    returns
+    is-foreign-requires
+    returns-2
+    byte-at-requires
+    is-broken-requires
+    returns-3
+    byte-at-requires-2
+    sub-command-of
+    byte-at-requires-3
+    byte-at-requires-4
+    command-of-requires
+    returns-4)

@@ -1,0 +1,27 @@
+-- `levels_command` asks the number of data bytes, which the count of ones fixes.
+use mathlib.Core.Path.{sym}
+use borrow.Author.Tests.{eq-eqb, ne-eqb}
+use borrow.Author.Needs.{needs}
+use Rattle.rs232c_asks.specs.Asks.{levelsCommand}
+use Rattle.rs232c_asks.proofs.levels_command.Statement.{statement}
+use Rattle.rs232c_asks.proofs.levels_command.Tie as tie
+
+ones-of-requires : tie.Need-ones-of-requires
+ones-of-requires c κs = search needs
+
+mul-if1 : tie.Need-mul-if1
+mul-if1 c = search needs
+
+add-if1 : tie.Need-add-if1
+add-if1 c = search needs
+
+returns : tie.Need-returns
+unfolding levelsCommand
+returns c = sym (rw (← c .before .ones-of .ensures .0, ne-eqb _ _ (c .if1 .taken)))
+
+returns-2 : tie.Need-returns-2
+unfolding levelsCommand
+returns-2 c = sym (rw (← c .before .ones-of .ensures .0, eq-eqb _ _ (c .if1 .left)))
+
+pub levels-command-spec : {M : Type 1} → statement M
+levels-command-spec = tie.close (tie.spec ones-of-requires mul-if1 add-if1 returns returns-2)

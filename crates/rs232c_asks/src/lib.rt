@@ -1,0 +1,226 @@
+// RS-232C: what a frame asks, whatever the panel (document 01, "RS-232C (002, 004)").
+use octets::byte_at;
+use octets::is_listed;
+use sums::sums_to_zero;
+use terms::Answer;
+ghost use mathlib.Core.Path.{_≡_};
+ghost use Prim.Native.Nat.{_≤_};
+ghost use lib.ListN.{length};
+ghost use Rattle.laws.specs.Lists.{listed};
+ghost use Rattle.panels.specs.Records.{connectors, presets};
+ghost use Rattle.rs232c_asks.specs.Asks.{isForeign, isBroken, configCommand, selectCommand, levelsCommand, senseCommand, commandOf, heardOf};
+ghost use Rattle.rs232c_asks.specs.Commands.{connectorGood, presetGood, configGood, selectGood};
+use octets::ones_of;
+
+// What a command block orders.
+pub enum Order {
+    // 21h: the marks, and the codes of connector and preset
+    Config(u8, u8),
+    // 22h: the connector and the act
+    Select(u8),
+    // 40h: the mask; its values stand behind it in the frame
+    Levels(u8),
+    // 61h: 1 gains, 2 biases
+    Sense(u8),
+    // 6Eh
+    Remote,
+}
+
+// What a message asks. The number is the source, to which the reply goes.
+pub enum Heard {
+    // 3 and 4: no reply
+    Refused(Answer),
+    // 5
+    Broken(u8),
+    // 6
+    NotUnderstood(u8),
+    Understood(u8, Order),
+}
+
+// First byte, destination and source.
+fn is_foreign(m: &[u8]) -> bool
+    ensures { λ r. ⌜ r ≡ isForeign (now (m .entry)) ⌝ }
+{
+    if byte_at(m, 0) != 2 {
+        return true;
+    }
+    if byte_at(m, 2) != 1 {
+        return true;
+    }
+    let source = byte_at(m, 3);
+    if source < 0x41 {
+        return true;
+    }
+    0x7F < source
+}
+
+// Byte count and checksum.
+fn is_broken(m: &[u8]) -> bool
+    requires { ⌜ 6 ≤ length (now m) ⌝ }
+    ensures { λ r. ⌜ r ≡ isBroken (now (m .entry)) ⌝ }
+{
+    let count = byte_at(m, 1) as usize;
+    if count + 3 != m.len() {
+        return true;
+    }
+    let summed = &m[1..];
+    if sums_to_zero(summed) {
+        return false;
+    }
+    true
+}
+
+fn is_connector(code: u8) -> bool
+    ensures { λ r. ⌜ r ≡ listed connectors code ⌝ }
+{
+    let connectors = [0u8, 2, 4, 5, 6, 7, 8, 9, 10, 11];
+    is_listed(&connectors, code)
+}
+
+fn is_preset(code: u8) -> bool
+    ensures { λ r. ⌜ r ≡ listed presets code ⌝ }
+{
+    let presets = [0u8, 2, 3];
+    is_listed(&presets, code)
+}
+
+// 21h: the connector's code is listed, where it is marked.
+fn connector_good(marks: u8, byte: u8) -> bool
+    ensures { λ r. ⌜ r ≡ connectorGood marks byte ⌝ }
+{
+    if marks % 2 != 1 {
+        return true;
+    }
+    is_connector(byte % 16)
+}
+
+// 21h: the preset's code is listed, where it is marked.
+fn preset_good(marks: u8, byte: u8) -> bool
+    ensures { λ r. ⌜ r ≡ presetGood marks byte ⌝ }
+{
+    if marks / 2 % 2 != 1 {
+        return true;
+    }
+    is_preset(byte / 16 % 8)
+}
+
+// 21h: both parts.
+fn config_good(marks: u8, byte: u8) -> bool
+    ensures { λ r. ⌜ r ≡ configGood marks byte ⌝ }
+{
+    if !connector_good(marks, byte) {
+        return false;
+    }
+    preset_good(marks, byte)
+}
+
+// 22h: an act, with a listed connector where the act looks at it.
+fn select_good(byte: u8) -> bool
+    ensures { λ r. ⌜ r ≡ selectGood byte ⌝ }
+{
+    let act = byte / 16 % 4;
+    if act == 3 {
+        return true;
+    }
+    if act == 0 {
+        return false;
+    }
+    is_connector(byte % 16)
+}
+
+// The command, by its code and its number of data bytes.
+fn command_of(source: u8, code: u8, n: usize, first: u8, second: u8) -> Heard
+    ensures { λ r. ⌜ r ≡ commandOf source code n first second ⌝ }
+{
+    if code == 0x21 {
+        return config_command(source, n, first, second);
+    }
+    if code == 0x22 {
+        return select_command(source, n, first);
+    }
+    if code == 0x40 {
+        return levels_command(source, n, first);
+    }
+    if code == 0x61 {
+        return sense_command(source, n, first);
+    }
+    if code != 0x6E {
+        return Heard::NotUnderstood(source);
+    }
+    if n != 0 {
+        return Heard::NotUnderstood(source);
+    }
+    Heard::Understood(source, Order::Remote)
+}
+
+fn config_command(source: u8, n: usize, first: u8, second: u8) -> Heard
+    ensures { λ r. ⌜ r ≡ configCommand source n first second ⌝ }
+{
+    if n != 2 {
+        return Heard::NotUnderstood(source);
+    }
+    if !config_good(first, second) {
+        return Heard::NotUnderstood(source);
+    }
+    Heard::Understood(source, Order::Config(first, second))
+}
+
+fn select_command(source: u8, n: usize, first: u8) -> Heard
+    ensures { λ r. ⌜ r ≡ selectCommand source n first ⌝ }
+{
+    if n != 1 {
+        return Heard::NotUnderstood(source);
+    }
+    if !select_good(first) {
+        return Heard::NotUnderstood(source);
+    }
+    Heard::Understood(source, Order::Select(first))
+}
+
+// The count of ones in the mask fixes the number of data bytes, before anything is applied.
+fn levels_command(source: u8, n: usize, first: u8) -> Heard
+    ensures { λ r. ⌜ r ≡ levelsCommand source n first ⌝ }
+{
+    if n != 1 + 2 * ones_of(first % 64) {
+        return Heard::NotUnderstood(source);
+    }
+    Heard::Understood(source, Order::Levels(first))
+}
+
+fn sense_command(source: u8, n: usize, first: u8) -> Heard
+    ensures { λ r. ⌜ r ≡ senseCommand source n first ⌝ }
+{
+    if n != 1 {
+        return Heard::NotUnderstood(source);
+    }
+    if first == 1 {
+        return Heard::Understood(source, Order::Sense(first));
+    }
+    if first != 2 {
+        return Heard::NotUnderstood(source);
+    }
+    Heard::Understood(source, Order::Sense(first))
+}
+
+// What a message asks.
+pub fn hear(m: &[u8]) -> Heard
+    ensures { λ r. ⌜ r ≡ heardOf (now (m .entry)) ⌝ }
+{
+    if m.len() < 6 {
+        return Heard::Refused(Answer::WrongLength);
+    }
+    if is_foreign(m) {
+        return Heard::Refused(Answer::NotForUs);
+    }
+    let source = byte_at(m, 3);
+    if is_broken(m) {
+        return Heard::Broken(source);
+    }
+    command_of(
+        source,
+        byte_at(m, 4),
+        m.len() - 6,
+        byte_at(m, 5),
+        byte_at(m, 6),
+    )
+}

@@ -1,0 +1,4 @@
+pub mod Configurations
+pub mod Determined
+pub mod Examples
+pub mod Orders

@@ -1,0 +1,88 @@
+-- docs/SCRIPTS.md, "Lines" and "Orders": which order a line is.
+use Prim.Native.Nat.{ℕ, zero, suc, _+_, _-_, _/_}
+use Prim.Native.String.{String}
+use mathlib.Core.Bool.{Bool, cond, _&&_, _||_}
+use mathlib.Core.List.{List, [], _∷_}
+use lib.Dec.{eqb, leb, ltb}
+use lib.ListN.{length, getD, drop}
+use Rattle.laws.specs.Bytes.{ascii, same}
+use Rattle.script_words.specs.Words.{words, wordAt, numberAt}
+use Rattle.script_lines.specs.declared.Order.{Order}
+use Rattle.script_lines.specs.declared.Order.the-variants.{Passed, Unread, Box, Rs232, Kjw, Tcp, Udp, Show, Advert, Write, Sum}
+use Rattle.script_words.specs.Kinds.{hex, family, any, area, shaped}
+
+-- the order's word, and behind it a word of each kind
+unfoldable pub asks : List ℕ → List ℕ → List ℕ → Bool
+asks name kinds line = same (wordAt 0 line) name && shaped kinds (drop 1 (words line))
+
+-- ---- `box`: "for each panel its family (W or K), group and unit (0 to 255); 0 to 16 panels may be written"
+
+unfoldable pub panelKinds : ℕ → List ℕ
+panelKinds zero = []
+panelKinds (suc n) = family ∷ 255 ∷ 255 ∷ panelKinds n
+
+-- three words a panel
+unfoldable pub panelsIn : List ℕ → ℕ
+panelsIn line = (length (words line) - 1) / 3
+
+unfoldable pub asksBox : List ℕ → Bool
+asksBox line = leb (panelsIn line) 16 && asks (ascii "box") (panelKinds (panelsIn line)) line
+
+-- the configuration of n panels from word k on: the family's letter, the group and the unit of each
+unfoldable pub configuration : ℕ → ℕ → List ℕ → List ℕ
+configuration zero k line = []
+configuration (suc n) k line =
+    getD (wordAt k line) 0 0 ∷ numberAt 255 (k + 1) line ∷ numberAt 255 (k + 2) line ∷ configuration n (k + 3) line
+
+-- that of a line; none where more than sixteen panels are written
+unfoldable pub configurationOf : List ℕ → List ℕ
+configurationOf line = cond (leb (panelsIn line) 16) (configuration (panelsIn line) 1 line) []
+
+-- ---- the other orders
+
+pub record Row : Type 0 where
+  pub word : List ℕ
+  pub kinds : List ℕ
+  pub order : Order
+
+abbrev pub row : String → List ℕ → Order → Row
+row word kinds order = record { word = ascii word; kinds = kinds; order = order }
+
+-- "LINK AREA HEX"
+abbrev pub linked : List ℕ
+linked = any ∷ area ∷ hex ∷ []
+
+-- "AREA CATEGORY PRODUCT SERIAL POWER LOCATION IP IP1 IP2 IP3 IP4 ERROR REGION NAME GROUP UNIT [..] the four texts are HEX, the
+-- rest N (CATEGORY, GROUP, UNIT to 255, POWER, ERROR to 65535)"
+abbrev pub fields : List ℕ
+fields =
+    area ∷ 255 ∷ hex ∷ any ∷ 65535 ∷ hex ∷ any ∷
+    any ∷ any ∷ any ∷ any ∷ 65535 ∷ hex ∷ hex ∷ 255 ∷ 255 ∷ []
+
+abbrev pub rows : List Row
+rows =
+    row "rs232" linked Rs232 ∷
+    row "kjw" linked Kjw ∷
+    row "tcp" linked Tcp ∷
+    row "udp" (hex ∷ []) Udp ∷
+    row "show" (any ∷ []) Show ∷
+    row "advert" (hex ∷ []) Advert ∷
+    row "write" fields Write ∷
+    row "sum" (hex ∷ []) Sum ∷ []
+
+-- "Any other line is answered `unread`"
+unfoldable pub orderIn : List Row → List ℕ → Order
+orderIn [] line = Unread
+orderIn (r ∷ rs) line = cond (asks (r .word) (r .kinds) line) (r .order) (orderIn rs line)
+
+-- "An empty line, and a line that begins with `#` (however long), is passed over and writes nothing."
+unfoldable pub isPassedOver : List ℕ → Bool
+isPassedOver line = eqb (length line) 0 || eqb (getD line 0 0) 0x23
+
+-- "A line holds at most 4,096 bytes before its end."
+unfoldable pub orderOf : List ℕ → Order
+orderOf line =
+    cond (isPassedOver line) Passed
+    (cond (ltb 4096 (length line)) Unread
+    (cond (asksBox line) Box
+    (orderIn rows line)))

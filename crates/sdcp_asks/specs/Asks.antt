@@ -1,0 +1,59 @@
+-- Document 01, "SDCP and VMC (001, 002, 004)": the packet, and what it asks.
+use Prim.Native.Nat.{ℕ, _-_}
+use mathlib.Core.Bool.{Bool, not, cond, _||_}
+use mathlib.Core.List.{List, [], _∷_}
+use lib.ListN.{length, getD, drop}
+use lib.Dec.{eqb, ltb}
+use Rattle.laws.specs.Bytes.{ascii, begins}
+use Rattle.laws.specs.Numbers.{number}
+use Rattle.terms.specs.declared.Answer.the-variants.{WrongLength, NotForUs}
+use Rattle.vmc_asks.specs.Asks.{readData}
+use Rattle.vmc_asks.specs.declared.Words.{Words}
+use Rattle.vmc_asks.specs.declared.Words.the-variants.{Understood as UnderstoodWords, NotUnderstood as NotUnderstoodWords}
+use Rattle.sdcp_asks.specs.declared.Heard.{Heard}
+use Rattle.sdcp_asks.specs.declared.Heard.the-variants.{Refused, Broken, NotUnderstood, Understood}
+
+-- "Numbers are high byte first: version 03h, category 0Bh, community "SONY", group, unit, request, item (2), data length (2), data."
+abbrev pub front : List ℕ
+front = 0x03 ∷ 0x0b ∷ ascii "SONY"
+
+unfoldable pub isOurs : List ℕ → Bool
+isOurs m = begins front m
+
+abbrev pub groupOf : List ℕ → ℕ
+groupOf m = getD m 6 0
+
+abbrev pub unitOf : List ℕ → ℕ
+unitOf m = getD m 7 0
+
+abbrev pub requestOf : List ℕ → ℕ
+requestOf m = getD m 8 0
+
+abbrev pub itemOf : List ℕ → ℕ
+itemOf m = number (getD m 9 0 ∷ getD m 10 0 ∷ [])
+
+abbrev pub dataLengthOf : List ℕ → ℕ
+dataLengthOf m = number (getD m 11 0 ∷ getD m 12 0 ∷ [])
+
+-- "The data area, from byte 13 to its end, is read as it stands."
+abbrev pub dataOf : List ℕ → List ℕ
+dataOf m = drop 13 m
+
+-- "Then 5 if request is not 00h, item not B000h, data length over 499, or data length not the number of bytes that follow."
+unfoldable pub isBroken : List ℕ → Bool
+isBroken m =
+    not (eqb (requestOf m) 0) || not (eqb (itemOf m) 0xb000) || ltb 499 (dataLengthOf m)
+    || not (eqb (dataLengthOf m) (length m - 13))
+
+-- what the words of the data say
+abbrev pub inWords : Words → Heard
+inWords (UnderstoodWords o) = Understood o
+inWords NotUnderstoodWords = NotUnderstood
+
+-- "Under 13 bytes: 3. Wrong version, category or community [..]: 4." Who is addressed is the box's to judge.
+unfoldable pub heardOf : List ℕ → Heard
+heardOf m =
+    cond (ltb (length m) 13) (Refused WrongLength)
+    (cond (not (isOurs m)) (Refused NotForUs)
+    (cond (isBroken m) Broken
+    (inWords (readData (dataOf m)))))

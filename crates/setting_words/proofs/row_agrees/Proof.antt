@@ -1,0 +1,77 @@
+-- `row_agrees` compares the bare text with an s of its length, or looks whether the whole text begins s.
+use Prim.Native.Nat.{ℕ}
+use mathlib.Core.Path.{_≡_, sym, ap, _∙_}
+use mathlib.Core.List.{List}
+use lib.ListN.{length, take}
+use lib.Seq.{take-length}
+use borrow.Author.Needs.{needs}
+use native.Mathlib.Omega.{arith}
+use Rattle.laws.specs.Bytes.{begins, same}
+use Rattle.laws.proofs.Lists.{other-length}
+use Rattle.laws.proofs.Texts.{begins-same}
+use Rattle.setting_words.specs.Rows.{textOf, bareOf, meets}
+use Rattle.setting_words.proofs.Rules.{bare-front, bare-fits, bare-length, text-length}
+use Rattle.setting_words.proofs.row_agrees.Statement.{statement}
+use Rattle.setting_words.proofs.row_agrees.Tie as tie
+
+mul-n : tie.Need-mul-n
+mul-n c = search needs
+
+array-read-n : tie.Need-array-read-n
+array-read-n c = search needs
+
+returns : tie.Need-returns
+unfolding meets
+returns c =
+    let a = c .before .before .before .args in
+    let d : length (bareOf (a .row)) ≡ length (a .s .now) → ⊥ = λ e. c .if2 .taken (sym e ∙ sym (bare-length (a .row))) in
+    rw (c .before .if1 .taken) (sym (other-length (bareOf (a .row)) (a .s .now) d))
+
+row-begins-requires : tie.Need-row-begins-requires
+row-begins-requires c κs =
+    let a = c .before .before .before in
+    (a .pre .0, (a .pre .1, rw (bare-length (a .args .row)) (bare-fits (a .args .row) (a .pre .1))))
+
+returns-2 : tie.Need-returns-2
+unfolding meets
+returns-2 c =
+    let x = c .before .before .before .before in
+    let row = x .args .row in
+    let s = x .args .s .now in
+    let l : length s ≡ length (bareOf row) = c .before .if2 .left ∙ bare-length row in
+    let e : c .row-begins .result ≡ same (bareOf row) s = c .row-begins .ensures ∙ ap (λ (n : ℕ). begins (take n (textOf row)) s) (bare-length row) ∙ ap (λ (t : List ℕ). begins t s) (bare-front row (x .pre .1)) ∙ begins-same (bareOf row) s l in
+    rw (c .before .before .if1 .taken) e
+
+mul-n-2 : tie.Need-mul-n-2
+mul-n-2 c = search needs
+
+array-read-n-2 : tie.Need-array-read-n-2
+array-read-n-2 c = search needs
+
+row-begins-requires-2 : tie.Need-row-begins-requires-2
+row-begins-requires-2 c κs =
+    let a = c .before .before in
+    (a .pre .0, (a .pre .1, rw (text-length (a .args .row)) (omega arith)))
+
+returns-3 : tie.Need-returns-3
+unfolding meets
+returns-3 c =
+    let x = c .before .before .before in
+    let row = x .args .row in
+    let s = x .args .s .now in
+    let e : c .row-begins2 .result ≡ begins (textOf row) s = c .row-begins2 .ensures ∙ ap (λ (n : ℕ). begins (take n (textOf row)) s) (text-length row) ∙ ap (λ (t : List ℕ). begins t s) (take-length (textOf row)) in
+    rw (c .before .if1 .left) e
+
+pub row-agrees-spec : {M : Type 1} → statement M
+row-agrees-spec =
+    tie.close
+    (tie.spec
+    mul-n
+    array-read-n
+    returns
+    row-begins-requires
+    returns-2
+    mul-n-2
+    array-read-n-2
+    row-begins-requires-2
+    returns-3)

@@ -1,0 +1,105 @@
+-- `row_begins` walks the row and s: before j all bytes agree, so what is left from j on decides.
+use Prim.Native.Nat.{ℕ, _+_, _-_, _*_, _<_, _≤_}
+use mathlib.Core.Path.{_≡_, refl, sym, ap, _∙_}
+use mathlib.Core.List.{List}
+use lib.ListN.{length, getD, take, drop}
+use lib.Seq.{getD-take, length-take-le}
+use borrow.Author.Tests.{eq-eqb, ne-eqb}
+use borrow.Author.Needs.{needs}
+use native.Mathlib.Omega.{arith}
+use Rattle.laws.specs.Bytes.{begins}
+use Rattle.laws.proofs.Texts.{begins-from, begins-ended, begins-whole}
+use Rattle.setting_words.specs.Rows.{textOf, rows}
+use Rattle.setting_words.proofs.Rules.{text-short, byte-is}
+use Rattle.setting_words.proofs.row_begins.Statement.{statement}
+use Rattle.setting_words.proofs.row_begins.Tie as tie
+
+abbrev Inv-loop : tie.InvT-loop
+Inv-loop s texts row n j₀ j = (j ≤ n) × (begins (take n (textOf row)) s ≡ begins (drop j (take n (textOf row))) (drop j s))
+
+abbrev μ-loop : tie.MeasureT-loop
+μ-loop s texts row n j₀ j = n - j
+
+-- place j lies in the first n bytes of the row's text
+inside : (row n j : ℕ) → n ≤ length (textOf row) → j < n → j < length (take n (textOf row))
+inside row n j h l = rw (length-take-le n (textOf row) h) l
+
+-- and the row's byte at j is that of these n
+byte : (texts : List ℕ) (row n j : ℕ) → texts ≡ rows → row < 32 → n ≤ length (textOf row) → j < n → getD texts (row * 13 + j) 0 ≡ getD (take n (textOf row)) j 0
+byte texts row n j e r h l = ap (λ (t : List ℕ). getD t (row * 13 + j) 0) e ∙ byte-is row j r (omega arith) ∙ sym (getD-take n (textOf row) j 0 l)
+
+loop-holds : tie.Need-loop-holds Inv-loop μ-loop
+loop-holds c = (search needs, refl)
+
+returns : tie.Need-returns Inv-loop μ-loop
+returns c =
+    let l = c .before .before in
+    let a = l .before .args in
+    sym (l .loop .inv .1 ∙ begins-ended (take (a .n) (textOf (a .row))) (a .s .now) (l .loop .j) (inside (a .row) (a .n) (l .loop .j) (l .before .pre .1 .1) (c .before .loop-test .taken)) (c .if1 .taken))
+
+mul-if2 : tie.Need-mul-if2 Inv-loop μ-loop
+mul-if2 c = search needs
+
+add-if2 : tie.Need-add-if2 Inv-loop μ-loop
+add-if2 c =
+    let a = c .before .before .before in
+    let h = text-short (a .args .row) (a .pre .1 .0) in
+    omega arith
+
+element-copy-out-if2 : tie.Need-element-copy-out-if2 Inv-loop μ-loop
+element-copy-out-if2 c =
+    let a = c .before .before .before in
+    let h = text-short (a .args .row) (a .pre .1 .0) in
+    omega arith
+
+shared-slice-read-if2 : tie.Need-shared-slice-read-if2 Inv-loop μ-loop
+shared-slice-read-if2 c = search needs
+
+returns-2 : tie.Need-returns-2 Inv-loop μ-loop
+returns-2 c =
+    let l = c .before .before .before .before .before in
+    let a = l .before .args in
+    let t = take (a .n) (textOf (a .row)) in
+    let h = inside (a .row) (a .n) (l .loop .j) (l .before .pre .1 .1) (c .before .before .before .before .loop-test .taken) in
+    let b = byte (a .texts .now) (a .row) (a .n) (l .loop .j) (l .before .pre .0) (l .before .pre .1 .0) (l .before .pre .1 .1) (c .before .before .before .before .loop-test .taken) in
+    sym (l .loop .inv .1 ∙ begins-from t (a .s .now) (l .loop .j) h (c .before .before .before .if1 .left) ∙ rw (ne-eqb (getD t (l .loop .j) 0) (getD (a .s .now) (l .loop .j) 0) (λ e. c .if2 .taken (b ∙ e))))
+
+add-j : tie.Need-add-j Inv-loop μ-loop
+add-j c = search needs
+
+loop-less : tie.Need-loop-less Inv-loop μ-loop
+loop-less c = search needs
+
+loop-again : tie.Need-loop-again Inv-loop μ-loop
+loop-again c =
+    let l = c .before .before .before .before .before in
+    let a = l .before .args in
+    let t = take (a .n) (textOf (a .row)) in
+    let h = inside (a .row) (a .n) (l .loop .j) (l .before .pre .1 .1) (c .before .before .before .before .loop-test .taken) in
+    let b = byte (a .texts .now) (a .row) (a .n) (l .loop .j) (l .before .pre .0) (l .before .pre .1 .0) (l .before .pre .1 .1) (c .before .before .before .before .loop-test .taken) in
+    (search needs, l .loop .inv .1 ∙ begins-from t (a .s .now) (l .loop .j) h (c .before .before .before .if1 .left) ∙ rw (eq-eqb (getD t (l .loop .j) 0) (getD (a .s .now) (l .loop .j) 0) (sym b ∙ c .if2 .left)))
+
+returns-3 : tie.Need-returns-3 Inv-loop μ-loop
+returns-3 c =
+    let l = c .before in
+    let a = l .before .args in
+    let h : length (take (a .n) (textOf (a .row))) ≤ l .loop .j = rw (length-take-le (a .n) (textOf (a .row)) (l .before .pre .1 .1)) (omega arith) in
+    sym (l .loop .inv .1 ∙ begins-whole (take (a .n) (textOf (a .row))) (a .s .now) (l .loop .j) h)
+
+pub row-begins-spec : {M : Type 1} → statement M
+row-begins-spec =
+    tie.close
+    (tie.spec
+    Inv-loop
+    μ-loop
+    loop-holds
+    returns
+    mul-if2
+    add-if2
+    element-copy-out-if2
+    shared-slice-read-if2
+    returns-2
+    add-j
+    loop-less
+    loop-again
+    returns-3)

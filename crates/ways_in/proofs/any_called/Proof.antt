@@ -1,0 +1,71 @@
+-- `any_called` asks the panels in turn: before i none is called, so what is left from i on decides.
+use Prim.Native.Nat.{_-_, _≤_}
+use mathlib.Core.Path.{_≡_, refl, sym, ap, _∙_}
+use mathlib.Core.List.{map}
+use lib.ListN.{length, take, drop}
+use borrow.Author.Needs.{needs}
+use native.Mathlib.Omega.{arith}
+use native.Mathlib.Numerals.{add-one}
+use Rattle.steps.specs.Messages.{nameOf}
+use Rattle.steps.specs.Addressing.{anyCalled}
+use Rattle.ways_in.proofs.Links.{names-from, names-behind}
+use Rattle.ways_in.proofs.any_called.Statement.{statement}
+use Rattle.ways_in.proofs.any_called.Tie as tie
+
+abbrev Inv-loop : tie.InvT-loop
+Inv-loop m n ps i₀ i = (i ≤ n) × ((length ps ≡ 8) × (anyCalled m (map nameOf (take n ps)) ≡ anyCalled m (drop i (map nameOf (take n ps)))))
+
+abbrev μ-loop : tie.MeasureT-loop
+μ-loop m n ps i₀ i = n - i
+
+loop-holds : tie.Need-loop-holds Inv-loop μ-loop
+loop-holds c = (omega arith, (search needs, refl))
+
+mul-p : tie.Need-mul-p Inv-loop μ-loop
+mul-p c = omega arith
+
+array-copy-out-p : tie.Need-array-copy-out-p Inv-loop μ-loop
+array-copy-out-p c = omega arith
+
+is-called-requires : tie.Need-is-called-requires Inv-loop μ-loop
+is-called-requires c κs = search needs
+
+returns : tie.Need-returns Inv-loop μ-loop
+returns c =
+    let l = c .before .before .before .before in
+    let x = l .before .before in
+    sym (l .loop .inv .1 .1 ∙ ap (anyCalled (x .args .m .now)) (names-from (x .args .t2) (x .args .n) (l .loop .i) (c .before .before .before .loop-test .taken) (omega arith)) ∙ rw (← c .before .is-called .ensures, c .if1 .taken))
+
+add-i : tie.Need-add-i Inv-loop μ-loop
+add-i c = omega arith
+
+loop-less : tie.Need-loop-less Inv-loop μ-loop
+loop-less c = omega arith
+
+loop-again : tie.Need-loop-again Inv-loop μ-loop
+loop-again c =
+    let l = c .before .before .before .before in
+    let x = l .before .before in
+    (omega arith, (l .loop .inv .1 .0, l .loop .inv .1 .1 ∙ ap (anyCalled (x .args .m .now)) (names-from (x .args .t2) (x .args .n) (l .loop .i) (c .before .before .before .loop-test .taken) (omega arith)) ∙ rw (← c .before .is-called .ensures, c .if1 .left, add-one)))
+
+returns-2 : tie.Need-returns-2 Inv-loop μ-loop
+returns-2 c =
+    let l = c .before in
+    let x = l .before .before in
+    sym (l .loop .inv .1 .1 ∙ ap (anyCalled (x .args .m .now)) (names-behind (x .args .t2) (x .args .n) (l .loop .i) (omega arith)))
+
+pub any-called-spec : {M : Type 1} → statement M
+any-called-spec =
+    tie.close
+    (tie.spec
+    Inv-loop
+    μ-loop
+    loop-holds
+    mul-p
+    array-copy-out-p
+    is-called-requires
+    returns
+    add-i
+    loop-less
+    loop-again
+    returns-2)
