@@ -17,6 +17,18 @@ ghost use Rattle.panels.specs.Records.{zeroPanel};
 ghost use Rattle.panels.specs.Valid.{okShift, okBias, okInputs, okGain, okBalance, okW, okInput, okK, okIds, zeroIds, okPanel, share, apart, distinct, valid};
 ghost use Rattle.panels.specs.Pairs.{bare, gathered};
 
+// The families' bytes.
+pub const FAMILY_W: u8 = b'W';
+
+pub const FAMILY_K: u8 = b'K';
+
+// The connectors' codes, the presets' codes, and the types of INPT.
+pub const CONNECTORS: [u8; 10] = [0, 2, 4, 5, 6, 7, 8, 9, 10, 11];
+
+pub const PRESETS: [u8; 3] = [0, 2, 3];
+
+pub const KINDS: [u8; 4] = [1, 3, 4, 5];
+
 // The inputs of a W panel: the code of the connector in use, the code of the preset white balance, and which of the ten
 // connectors are ON, in the order of the table of their codes.
 #[repr(C)]
@@ -103,11 +115,11 @@ fn bias_ok(z: i16) -> bool
 fn inputs_ok(i: Inputs) -> bool
     ensures { λ r. ⌜ r ≡ okInputs i ⌝ }
 {
-    let connectors = [0u8, 2, 4, 5, 6, 7, 8, 9, 10, 11];
+    let connectors = CONNECTORS;
     if !is_listed(&connectors, i.used) {
         return false;
     }
-    let presets = [0u8, 2, 3];
+    let presets = PRESETS;
     if !is_listed(&presets, i.preset) {
         return false;
     }
@@ -185,7 +197,7 @@ fn w_ok(w: WRecord) -> bool
 fn input_ok(kind: u8, port: u16) -> bool
     ensures { λ r. ⌜ r ≡ okInput kind port ⌝ }
 {
-    let kinds = [1u8, 3, 4, 5];
+    let kinds = KINDS;
     if !is_listed(&kinds, kind) {
         return false;
     }
@@ -249,14 +261,14 @@ fn panel_ok(p: Panel) -> bool
 {
     let g = p.group;
     let u = p.unit;
-    if p.family == 87 {
+    if p.family == FAMILY_W {
         if !ids_ok(g, u) {
             return false;
         }
         let w = p.w;
         return w_ok(w);
     }
-    if p.family != 75 {
+    if p.family != FAMILY_K {
         return false;
     }
     if !ids_zero(g, u) {
@@ -270,10 +282,10 @@ fn panel_ok(p: Panel) -> bool
 fn share_pair(p: Ids, q: Ids) -> bool
     ensures { λ r. ⌜ r ≡ share (bare p) (bare q) ⌝ }
 {
-    if p.family != 87 {
+    if p.family != FAMILY_W {
         return false;
     }
-    if q.family != 87 {
+    if q.family != FAMILY_W {
         return false;
     }
     if !same_group(p.group, q.group) {
