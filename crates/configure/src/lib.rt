@@ -1,21 +1,21 @@
 // A configuration: three bytes a panel in, a box at its start values out (document 01, "The box and its messages" and "Start values").
-use settings::start_values;
-use terms::Answer;
-use terms::GroupId;
-use terms::UnitId;
-ghost use mathlib.Core.Path.{_≡_};
-ghost use Prim.Native.Nat.{_+_, _*_, _<_, _≤_};
-ghost use lib.ListN.{length};
-ghost use Rattle.panels.specs.Records.{startW, startK};
-ghost use Rattle.configure.specs.Configure.{asked, freshPanel, refusal, configured};
+use box_rules::is_valid;
 use panels::Balance;
 use panels::DisplayBox;
 use panels::Inputs;
 use panels::KRecord;
 use panels::Panel;
 use panels::WRecord;
-use panels::is_valid;
 use panels::zero_panel;
+use settings::start_values;
+use terms::Answer;
+use terms::GroupId;
+use terms::UnitId;
+ghost use mathlib.Core.Path.{_≡_};
+ghost use Prim.Native.Nat.{_≤_};
+ghost use lib.ListN.{length};
+ghost use Rattle.panels.specs.Records.{startW, startK};
+ghost use Rattle.configure.specs.Configure.{asked, freshPanel, refusal, configured};
 
 // What a configuration gives: its answer, and the box.
 pub struct Configured {

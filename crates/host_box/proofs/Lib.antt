@@ -1,4 +1,3 @@
-mod Called
 pub mod Determined
 pub mod Host
 pub mod Life

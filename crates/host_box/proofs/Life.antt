@@ -1,28 +1,28 @@
 -- A host's calls are a run of the step: each call is one message, or none; so what is proved of every run holds of its box.
 use mathlib.Core.Path.{_≡_, refl, sym, ap, _∙_}
-use mathlib.Core.Bool.{Bool, true, false, cond}
 use mathlib.Core.List.{List, [], _∷_}
 use Prim.Native.Nat.{ℕ, _<_}
-use lib.Dec.{eqb}
 use lib.ListN.{length}
 use Rattle.panels.specs.declared.DisplayBox.{DisplayBox}
 use Rattle.steps.specs.Messages.{Message, names}
 use Rattle.steps.specs.Step.{panelAt}
 use Rattle.steps.specs.Run.{run, kept, replies}
 use Rattle.steps.proofs.Alone.{demand-3}
-use Rattle.host_box.specs.Called.{Called, called}
-use Rattle.host_box.specs.Life.{Call, afterCall, life, andThat, messagesOf}
+use Rattle.host_box.specs.Called.{wayOf, calledBy, called}
+use Rattle.host_box.specs.Life.{Call, afterCall, life, andBy, andThat, messagesOf}
+use Rattle.ways_in.specs.declared.Way.the-variants.{By, Udp}
+use Rattle.host_box.specs.declared.Entry.{Entry}
+use Rattle.host_box.specs.declared.Entry.the-variants.{Through, Nowhere}
 
-module _ (b : DisplayBox) (rest : List Message) where
-  -- where a test decides both, what goes on from the box is what the messages do
-  either : (t : Bool) (x y : Called) (ms ns : List Message) → run (x .box) rest ≡ run b ms → run (y .box) rest ≡ run b ns → run (cond t x y .box) rest ≡ run b (cond t ms ns)
-  either true x y ms ns p q = p
-  either false x y ms ns p q = q
+-- one call, by where its number leads
+by-entry : (b : DisplayBox) (rest : List Message) (k : Call) (e : Entry) → run (calledBy e b (k .link) (k .message) (k .area) .box) rest ≡ run b (andBy e k rest)
+by-entry b rest k (Through (By line)) = refl
+by-entry b rest k (Through Udp) = refl
+by-entry b rest k Nowhere = refl
 
-  one-call : (k : Call) → run (afterCall b k) rest ≡ run b (andThat k rest)
-  unfolding called
-  one-call k =
-      either (eqb (k .way) 1) _ _ _ _ refl (either (eqb (k .way) 2) _ _ _ _ refl (either (eqb (k .way) 3) _ _ _ _ refl (either (eqb (k .way) 4) _ _ _ _ refl refl)))
+one-call : (b : DisplayBox) (rest : List Message) (k : Call) → run (afterCall b k) rest ≡ run b (andThat k rest)
+unfolding called
+one-call b rest k = by-entry b rest k (wayOf (k .way))
 
 pub life-is-run : (b : DisplayBox) (ks : List Call) → life b ks ≡ run b (messagesOf ks)
 life-is-run b [] = refl

@@ -4,17 +4,20 @@ use mathlib.Core.Bool.{cond, _&&_}
 use mathlib.Core.List.{List}
 use lib.Dec.{eqb, leb}
 use Rattle.terms.specs.Answers.{numberOf}
-use Rattle.terms.specs.declared.Answer.{Answer}
 use Rattle.terms.specs.declared.Answer.the-variants.{NoSuchPanel}
 use Rattle.panels.specs.Records.{zeroPanel}
 use Rattle.panels.specs.Valid.{valid}
 use Rattle.panels.specs.declared.Panel.{Panel}
 use Rattle.panels.specs.declared.DisplayBox.{DisplayBox}
-use Rattle.steps.specs.Messages.{Message, rs232c, kjw, tcp, udp}
-use Rattle.steps.specs.Step.{Outcome, panelAt, step}
+use Rattle.steps.specs.Step.{panelAt}
+use Rattle.addresses.specs.declared.Line.the-variants.{Rs232c, Kjw, Tcp}
+use Rattle.ways_in.specs.Promise.{Came, cameBy}
+use Rattle.ways_in.specs.declared.Way.the-variants.{By, Udp}
 use Rattle.configure.specs.declared.Configured.{Configured}
 use Rattle.host_box.specs.declared.Made.{Made}
-use Rattle.host_box.specs.declared.Taken.{Taken}
+use Rattle.host_box.specs.declared.Outcome.{Outcome}
+use Rattle.host_box.specs.declared.Entry.{Entry}
+use Rattle.host_box.specs.declared.Entry.the-variants.{Through, Nowhere}
 
 -- a configuration's box, its answer as a number
 abbrev pub madeOf : Configured → Made
@@ -27,32 +30,31 @@ pub record Called : Type 0 where
   pub len : ℕ
   pub area : List ℕ
 
--- "All but UDP come with a lent reply area."
-abbrev pub withArea : Outcome → Called
-withArea o = record { box = o .box; answer = numberOf (o .answer); len = o .back .len; area = o .back .area }
-
--- by UDP there is no reply, and an area that is handed in with it keeps its bytes
-abbrev pub unanswered : Outcome → List ℕ → Called
-unanswered o area = record { box = o .box; answer = numberOf (o .answer); len = o .back .len; area = area }
+abbrev pub inNumbers : Came → Called
+inNumbers c = record { box = c .box; answer = numberOf (c .answer); len = c .len; area = c .area }
 
 -- a way that does not exist leads to no panel
 abbrev pub noWay : DisplayBox → List ℕ → Called
 noWay b area = record { box = b; answer = numberOf NoSuchPanel; len = 0; area = area }
 
 -- "RS-232C port of panel p, KJW link of panel p, SDCP by TCP on the link of panel p, or SDCP by UDP": 1, 2, 3, 4
+unfoldable pub wayOf : ℕ → Entry
+wayOf n =
+    cond (eqb n 1) (Through (By Rs232c))
+    (cond (eqb n 2) (Through (By Kjw))
+    (cond (eqb n 3) (Through (By Tcp))
+    (cond (eqb n 4) (Through Udp)
+    Nowhere)))
+
+abbrev pub calledBy : Entry → DisplayBox → ℕ → List ℕ → List ℕ → Called
+calledBy (Through way) b link m area = inNumbers (cameBy way b link m area)
+calledBy Nowhere b link m area = noWay b area
+
 unfoldable pub called : DisplayBox → ℕ → ℕ → List ℕ → List ℕ → Called
-called b way link m area =
-    cond (eqb way 1) (withArea (step b (rs232c link m area)))
-    (cond (eqb way 2) (withArea (step b (kjw link m area)))
-    (cond (eqb way 3) (withArea (step b (tcp link m area)))
-    (cond (eqb way 4) (unanswered (step b (udp m)) area)
-    (noWay b area))))
+called b way link m area = calledBy (wayOf way) b link m area
 
-abbrev pub inNumbers : DisplayBox → Answer → ℕ → Taken
-inNumbers b a n = record { after = b; answer = numberOf a; len = n }
-
-abbrev pub takenOf : Called → Taken
-takenOf c = record { after = c .box; answer = c .answer; len = c .len }
+abbrev pub numbersOf : Called → Outcome
+numbersOf c = record { after = c .box; answer = c .answer; len = c .len }
 
 -- the panel behind a link: "numbered from 1 in the order given; that is also the link number"; all zeros where there is none,
 -- and a box that breaks the rules is "a box of no panels"

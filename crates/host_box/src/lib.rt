@@ -1,22 +1,21 @@
 // The box as a C host calls it, by value: a configuration, a message by the number of its way in, and the panel behind a link.
+use addresses::Line;
+use box_rules::is_valid;
 use configure::configure;
 use panels::DisplayBox;
 use panels::Panel;
-use panels::is_valid;
 use panels::zero_panel;
 use terms::Answer;
 use terms::answer_number;
-use ways_in::Outcome;
-use ways_in::take_kjw;
-use ways_in::take_rs232c;
-use ways_in::take_tcp;
-use ways_in::take_udp;
+use ways_in::Way;
+use ways_in::take;
 ghost use mathlib.Core.Path.{_≡_};
+ghost use Rattle.terms.specs.Answers.{numberOf};
 ghost use Rattle.configure.specs.Configure.{configured};
-ghost use Rattle.host_box.specs.Called.{madeOf, inNumbers, called, takenOf, panelBehind};
+ghost use Rattle.host_box.specs.Called.{madeOf, wayOf, called, numbersOf, panelBehind};
 
 // What a message did: the box after it, the answer's number, and the reply's length.
-pub struct Taken {
+pub struct Outcome {
     pub after: DisplayBox,
     pub answer: u8,
     pub len: usize,
@@ -28,16 +27,19 @@ pub struct Made {
     pub answer: u8,
 }
 
-// What a way in told, its answer as a number.
-fn in_numbers(t: Outcome) -> Taken
-    ensures { λ r. ⌜ r ≡ inNumbers (t .after) (t .answer) (t .len) ⌝ }
+// Where the number of a way leads.
+pub enum Entry {
+    Through(Way),
+    Nowhere,
+}
+
+// An outcome with its answer as a number.
+fn in_numbers(after: DisplayBox, answer: Answer, len: usize) -> Outcome
+    ensures { λ r. ⌜ r ≡ record { after = after; answer = numberOf answer; len = len } ⌝ }
 {
-    let after = t.after;
-    let told = t.answer;
-    let len = t.len;
-    Taken {
+    Outcome {
         after,
-        answer: answer_number(told),
+        answer: answer_number(answer),
         len,
     }
 }
@@ -48,35 +50,47 @@ pub fn make_box(configuration: &[u8]) -> Made
 {
     let c = configure(configuration);
     let made = c.made;
-    let answer = c.answer;
+    let given = c.answer;
     Made {
         made,
-        answer: answer_number(answer),
+        answer: answer_number(given),
     }
 }
 
-// A message: 1 is the RS-232C port of the link's panel, 2 its KJW link, 3 TCP on its link, 4 UDP. There is no other way in.
-pub fn take_message(b: DisplayBox, way: u8, link: usize, m: &[u8], area: &mut [u8]) -> Taken
-    ensures { λ r. ⌜ (r ≡ takenOf (called b way link (now (m .entry)) (now (area .entry))))
+// 1 is the RS-232C port of the link's panel, 2 its KJW link, 3 TCP on its link, 4 UDP. There is no other way in.
+fn way_of(number: u8) -> Entry
+    ensures { λ r. ⌜ r ≡ wayOf number ⌝ }
+{
+    if number == 1 {
+        return Entry::Through(Way::By(Line::Rs232c));
+    }
+    if number == 2 {
+        return Entry::Through(Way::By(Line::Kjw));
+    }
+    if number == 3 {
+        return Entry::Through(Way::By(Line::Tcp));
+    }
+    if number == 4 {
+        return Entry::Through(Way::Udp);
+    }
+    Entry::Nowhere
+}
+
+// A message by the number of its way in.
+pub fn take_message(b: DisplayBox, way: u8, link: usize, m: &[u8], area: &mut [u8]) -> Outcome
+    ensures { λ r. ⌜ (r ≡ numbersOf (called b way link (now (m .entry)) (now (area .entry))))
         × (now (area .exit) ≡ called b way link (now (m .entry)) (now (area .entry)) .area) ⌝ }
 {
-    if way == 1 {
-        return in_numbers(take_rs232c(b, link, m, area));
+    match way_of(way) {
+        Entry::Through(w) => {
+            let t = take(b, w, link, m, area);
+            let after = t.after;
+            let answer = t.answer;
+            let len = t.len;
+            in_numbers(after, answer, len)
+        }
+        Entry::Nowhere => in_numbers(b, Answer::NoSuchPanel, 0),
     }
-    if way == 2 {
-        return in_numbers(take_kjw(b, link, m, area));
-    }
-    if way == 3 {
-        return in_numbers(take_tcp(b, link, m, area));
-    }
-    if way == 4 {
-        return in_numbers(take_udp(b, m));
-    }
-    in_numbers(Outcome {
-        after: b,
-        answer: Answer::NoSuchPanel,
-        len: 0,
-    })
 }
 
 // The panel behind a link, or all zeros where there is none.

@@ -1,7 +1,6 @@
 pub mod Determined
 mod Examples
 pub mod Validity
-mod Lengths
 pub mod Notices
 pub mod Stays
 pub mod AskedBack

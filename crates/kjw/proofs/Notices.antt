@@ -4,44 +4,28 @@ use mathlib.Core.Bool.{Bool, true, false, cond}
 use mathlib.Core.List.{List, [], _∷_}
 use Prim.Native.Nat.{ℕ}
 use native.Mathlib.Omega.{arith}
-use lib.ListN.{length, length-append}
+use lib.ListN.{length}
 use Rattle.laws.specs.Bytes.{same}
 use Rattle.laws.specs.Lists.{listed}
 use Rattle.laws.proofs.Conditions.{false-true}
-use Rattle.laws.proofs.Lists.{same-self, same-is}
+use Rattle.laws.proofs.Lists.{same-self}
 use Rattle.panels.specs.declared.KRecord.{KRecord}
-use Rattle.kjw_asks.specs.Frames.{frameOf, typeAnswer, typeNotice, lettersOf, stateLetters}
-use Rattle.kjw.specs.Frames.{accepted, rejected, valueOf}
+use Rattle.kjw_asks.specs.Frames.{lettersOf}
+use Rattle.kjw_values.specs.Values.{valueOf}
 use Rattle.kjw_asks.specs.Asks.{heardOf}
-use Rattle.kjw.specs.Rules.{carried, noticed, replyOf, decided, bytesOf, turnOf}
-use Rattle.kjw_asks.specs.declared.State.{State}
-use Rattle.kjw_asks.specs.declared.State.the-variants.{Power, AudioMute, PictureMute, Volume, Input}
-use Rattle.kjw_asks.specs.declared.Order.{Order}
-use Rattle.kjw_asks.specs.declared.Order.the-variants.{SetPower, TogglePower, SetAudioMute, SetPictureMute, TogglePictureMute, SetVolume, SetInput, SetScene, Ask}
-use Rattle.kjw_asks.specs.declared.Heard.{Heard}
-use Rattle.kjw_asks.specs.declared.Heard.the-variants.{Refused, NotUnderstood, Understood}
-use Rattle.kjw.specs.declared.Reply.{Reply}
-use Rattle.kjw.specs.declared.Reply.the-variants.{Silent, Rejected, Accepted, Changed, Value}
-use Rattle.kjw.proofs.Lengths.{frame-length, name-length, value-length}
+use Rattle.kjw.specs.Orders.{carried}
+use Rattle.kjw.specs.Replies.{noticed, replyOf, decided, turnOf}
+use Rattle.kjw_sets.specs.declared.State.{State}
+use Rattle.kjw_sets.specs.declared.State.the-variants.{Power, AudioMute, PictureMute, Volume, Input}
+use Rattle.kjw_sets.specs.declared.Order.{Order}
+use Rattle.kjw_sets.specs.declared.Order.the-variants.{SetPower, TogglePower, SetAudioMute, SetPictureMute, TogglePictureMute, SetVolume, SetInput, SetScene, Ask}
+use Rattle.kjw_sets.specs.declared.Heard.{Heard}
+use Rattle.kjw_sets.specs.declared.Heard.the-variants.{Refused, NotUnderstood, Understood}
+use Rattle.kjw_tells.specs.declared.Reply.{Reply}
+use Rattle.kjw_tells.specs.declared.Reply.the-variants.{Silent, Rejected, Accepted, Changed, Value}
+use Rattle.kjw_tells.proofs.Lengths.{lengthOf, bytes-length}
 use Rattle.turns.specs.Turns.{Turn, taken}
 use Rattle.turns.proofs.Turns.{either}
-use Rattle.kjw.proofs.Door.{}
-
--- how many bytes a reply has
-abbrev lengthOf : Reply → ℕ
-lengthOf Silent = 0
-lengthOf Rejected = 24
-lengthOf Accepted = 24
-lengthOf (Changed s) = 48
-lengthOf (Value s) = 24
-
-bytes-length : (r : Reply) (k : KRecord) (l : List ℕ) → length l ≡ 4 → length (bytesOf r k l) ≡ lengthOf r
-unfolding bytesOf
-bytes-length Silent k l e = refl
-bytes-length Rejected k l e = frame-length typeAnswer l rejected e refl
-bytes-length Accepted k l e = frame-length typeAnswer l accepted e refl
-bytes-length (Changed s) k l e = length-append (frameOf typeAnswer l accepted) (frameOf typeNotice (stateLetters s) (valueOf s k)) ∙ rw (frame-length typeAnswer l accepted e refl, frame-length typeNotice (stateLetters s) (valueOf s k) (name-length s) (value-length s k))
-bytes-length (Value s) k l e = frame-length typeAnswer l (valueOf s k) e (value-length s k)
 
 turned-length : (m : List ℕ) (k : KRecord) → length (turnOf m k .reply) ≡ lengthOf (decided k (heardOf m) .reply)
 unfolding turnOf lettersOf
@@ -70,15 +54,6 @@ noticed-changed s k k′ = go (same (valueOf s k) (valueOf s k′)) refl
     go : (b : Bool) → same (valueOf s k) (valueOf s k′) ≡ b → lengthOf (cond b Accepted (Changed s)) ≡ 48 → Notice k k′
     go true t e = absurd (omega arith)
     go false t e = record { state = s; changed = λ q. false-true (sym t ∙ ap (λ (v : List ℕ). same v (valueOf s k′)) q ∙ same-self (valueOf s k′)) }
-
--- and where it changed there is one
-pub noticed-told : (s : State) (k k′ : KRecord) → (valueOf s k ≡ valueOf s k′ → ⊥) → noticed s k k′ ≡ Changed s
-unfolding noticed
-noticed-told s k k′ n = go (same (valueOf s k) (valueOf s k′)) refl
-  where
-    go : (b : Bool) → same (valueOf s k) (valueOf s k′) ≡ b → cond b Accepted (Changed s) ≡ Changed s
-    go true t = absurd (n (same-is (valueOf s k) (valueOf s k′) t))
-    go false t = refl
 
 reply-changed : (o : Order) (k k′ : KRecord) → lengthOf (replyOf o k k′) ≡ 48 → Notice k k′
 unfolding replyOf

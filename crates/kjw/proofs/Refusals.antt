@@ -7,9 +7,9 @@ use Rattle.turns.specs.Turns.{Turn, taken}
 use Rattle.turns.proofs.Turns.{either}
 use Rattle.panels.specs.declared.KRecord.{KRecord}
 use Rattle.kjw_asks.specs.Asks.{heardOf}
-use Rattle.kjw.specs.Rules.{decided, turnOf}
-use Rattle.kjw_asks.specs.declared.Heard.{Heard}
-use Rattle.kjw_asks.specs.declared.Heard.the-variants.{Refused, NotUnderstood, Understood}
+use Rattle.kjw.specs.Replies.{decided, turnOf}
+use Rattle.kjw_sets.specs.declared.Heard.{Heard}
+use Rattle.kjw_sets.specs.declared.Heard.the-variants.{Refused, NotUnderstood, Understood}
 
 turn-unchanged : (h : Heard) (k : KRecord) → (decided k h .answer ≡ Done → ⊥) → decided k h .k ≡ k
 unfolding decided

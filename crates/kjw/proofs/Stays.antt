@@ -11,15 +11,16 @@ use Rattle.turns.specs.Turns.{Turn, taken}
 use Rattle.turns.proofs.Turns.{either}
 use Rattle.panels.specs.declared.KRecord.{KRecord}
 use Rattle.decimals.specs.Decimals.{inDigits}
-use Rattle.kjw.specs.Frames.{switchWord, sceneWord, inputWord, valueOf}
+use Rattle.kjw_values.specs.Values.{switchWord, sceneWord, inputWord, valueOf}
 use Rattle.kjw_asks.specs.Asks.{heardOf}
-use Rattle.kjw.specs.Rules.{flipped, carried, decided, turnOf}
-use Rattle.kjw_asks.specs.declared.State.{State}
-use Rattle.kjw_asks.specs.declared.State.the-variants.{Power, AudioMute, PictureMute, Volume, Input, Scene}
-use Rattle.kjw_asks.specs.declared.Order.{Order}
-use Rattle.kjw_asks.specs.declared.Order.the-variants.{SetPower, TogglePower, SetAudioMute, SetPictureMute, TogglePictureMute, SetVolume, SetInput, SetScene, Ask}
-use Rattle.kjw_asks.specs.declared.Heard.{Heard}
-use Rattle.kjw_asks.specs.declared.Heard.the-variants.{Refused, NotUnderstood, Understood}
+use Rattle.kjw.specs.Orders.{flipped, carried}
+use Rattle.kjw.specs.Replies.{decided, turnOf}
+use Rattle.kjw_sets.specs.declared.State.{State}
+use Rattle.kjw_sets.specs.declared.State.the-variants.{Power, AudioMute, PictureMute, Volume, Input, Scene}
+use Rattle.kjw_sets.specs.declared.Order.{Order}
+use Rattle.kjw_sets.specs.declared.Order.the-variants.{SetPower, TogglePower, SetAudioMute, SetPictureMute, TogglePictureMute, SetVolume, SetInput, SetScene, Ask}
+use Rattle.kjw_sets.specs.declared.Heard.{Heard}
+use Rattle.kjw_sets.specs.declared.Heard.the-variants.{Refused, NotUnderstood, Understood}
 
 -- the states in a row, and the one that an order sets; an enquiry sets none of the six
 abbrev pub placeOf : State → ℕ

@@ -1,32 +1,35 @@
--- A valid panel stays valid, and an answer that is not 0 leaves it as it was: only orders in their ranges are understood.
+-- A valid panel stays valid: only orders in their ranges are understood.
 use mathlib.Core.Path.{_≡_, refl}
 use mathlib.Core.Bool.{Bool, true, not, _&&_}
 use mathlib.Core.List.{List}
 use Prim.Native.Nat.{ℕ, _-_}
-use native.Mathlib.Omega.{arith}
 use lib.ListN.{length, getD}
 use lib.Dec.{eqb, leb}
-use borrow.Author.Tests.{eqb-true, le-leb, not-false}
+use borrow.Author.Tests.{le-leb}
 use Rattle.laws.specs.Bytes.{ascii, part, same}
-use Rattle.laws.specs.Lists.{listed}
-use Rattle.laws.proofs.Conditions.{and-first, and-second, and-both, choose}
-use Rattle.laws.proofs.Lists.{part-length, listed-every}
+use Rattle.laws.specs.Lists.{every}
+use Rattle.laws.proofs.Conditions.{and-first, and-second, choose}
 use Rattle.terms.specs.declared.Answer.the-variants.{WrongLength, NotForUs}
 use Rattle.turns.specs.Turns.{Turn, taken}
 use Rattle.turns.proofs.Turns.{either}
-use Rattle.panels.specs.Records.{kinds}
+use Rattle.panels.specs.Records.{mostVolume, lastScene}
 use Rattle.panels.specs.Valid.{okInput, okK}
 use Rattle.panels.specs.declared.KRecord.{KRecord}
-use Rattle.decimals.specs.Decimals.{decimal}
-use Rattle.kjw_asks.specs.Frames.{lettersOf, typeControl, blank, stateLetters}
-use Rattle.kjw_asks.specs.Asks.{switchOf, sceneOf, isVolume, isInput, upTo, volumeOrder, inputOrder, toggleOf, controlOf, enquiryOf, isOurs, heardOf}
-use Rattle.kjw.specs.Rules.{flipped, carried, decided, turnOf}
-use Rattle.kjw_asks.specs.declared.State.the-variants.{Power, AudioMute, PictureMute, Volume, Input, Scene}
-use Rattle.kjw_asks.specs.declared.Order.{Order}
-use Rattle.kjw_asks.specs.declared.Order.the-variants.{SetPower, TogglePower, SetAudioMute, SetPictureMute, TogglePictureMute, SetVolume, SetInput, SetScene, Ask}
-use Rattle.kjw_asks.specs.declared.Heard.{Heard}
-use Rattle.kjw_asks.specs.declared.Heard.the-variants.{Refused, NotUnderstood, Understood}
-use Rattle.kjw_asks.proofs.Parameters.{volume-most, Inputs, input-is, port-most}
+use Rattle.decimals.specs.Decimals.{isDigit, decimal}
+use Rattle.kjw_asks.specs.Frames.{lettersOf, typeControl, blank}
+use Rattle.kjw_asks.specs.Asks.{stateNamed, toggleOf, controlBy, controlOf, enquiryBy, enquiryOf, isOurs, heardOf}
+use Rattle.kjw_sets.specs.Sets.{switchOf, sceneOf, isVolume, isPadded, kindIn, portIn, inputOf, upTo, volumeOrder, inputOrder, setBy, setOf}
+use Rattle.kjw_asks.specs.declared.Named.{Named}
+use Rattle.kjw_asks.specs.declared.Named.the-variants.{Is, Nothing}
+use Rattle.kjw.specs.Orders.{flipped, carried}
+use Rattle.kjw.specs.Replies.{decided, turnOf}
+use Rattle.kjw_sets.specs.declared.State.{State}
+use Rattle.kjw_sets.specs.declared.State.the-variants.{Power, AudioMute, PictureMute, Volume, Input, Scene}
+use Rattle.kjw_sets.specs.declared.Order.{Order}
+use Rattle.kjw_sets.specs.declared.Order.the-variants.{SetPower, TogglePower, SetAudioMute, SetPictureMute, TogglePictureMute, SetVolume, SetInput, SetScene, Ask}
+use Rattle.kjw_sets.specs.declared.Heard.{Heard}
+use Rattle.kjw_sets.specs.declared.Heard.the-variants.{Refused, NotUnderstood, Understood}
+use Rattle.kjw_sets.proofs.Parameters.{volume-most}
 
 -- an order whose numbers are in their ranges
 abbrev inRange : Order → Bool
@@ -35,9 +38,9 @@ inRange TogglePower = true
 inRange (SetAudioMute v) = leb v 1
 inRange (SetPictureMute v) = leb v 1
 inRange TogglePictureMute = true
-inRange (SetVolume v) = leb v 100
+inRange (SetVolume v) = leb v mostVolume
 inRange (SetInput kind port) = okInput kind port
-inRange (SetScene v) = leb v 2
+inRange (SetScene v) = leb v lastScene
 inRange (Ask s) = true
 
 abbrev sound : Heard → Bool
@@ -54,18 +57,27 @@ up-to-sound most v o h = choose Sound (leb v most) (Understood o) NotUnderstood 
 
 volume-sound : (p : List ℕ) → Sound (volumeOrder p)
 unfolding volumeOrder
-volume-sound p = choose Sound (isVolume p) (Understood (SetVolume (decimal p))) NotUnderstood (λ e. le-leb (decimal p) 100 (volume-most p e)) (λ e. refl)
+volume-sound p = choose Sound (isVolume p) (Understood (SetVolume (decimal p))) NotUnderstood (λ e. le-leb (decimal p) mostVolume (volume-most p e)) (λ e. refl)
 
-input-ok : (p : List ℕ) → length p ≡ 16 → Inputs p → okInput (getD p 7 0 - 0x30) (decimal (part 12 4 p)) ≡ true
-unfolding okInput
-input-ok p h i =
-    let port = decimal (part 12 4 p) in
-    let kind : listed kinds (getD p 7 0 - 0x30) ≡ true = listed-every (λ (x : ℕ). listed kinds (x - 0x30)) (ascii "1345") (getD p 7 0) refl (i .kind) in
-    and-both (listed kinds (getD p 7 0 - 0x30) && leb 1 port) (leb port 9999) (and-both (listed kinds (getD p 7 0 - 0x30)) (leb 1 port) kind (le-leb 1 port (i .port))) (le-leb port 9999 (port-most p h (i .digits)))
+input-sound : (p : List ℕ) → Sound (inputOrder p)
+unfolding inputOrder inputOf
+input-sound p =
+    choose Sound (isPadded p && every isDigit (kindIn p) && every isDigit (portIn p)) (inputOf (decimal (kindIn p)) (decimal (portIn p))) NotUnderstood
+    (λ e. choose Sound (okInput (decimal (kindIn p)) (decimal (portIn p))) (Understood (SetInput (decimal (kindIn p)) (decimal (portIn p)))) NotUnderstood (λ f. f) (λ f. refl))
+    (λ e. refl)
 
-input-sound : (p : List ℕ) → length p ≡ 16 → Sound (inputOrder p)
-unfolding inputOrder
-input-sound p h = choose Sound (isInput p) (Understood (SetInput (getD p 7 0 - 0x30) (decimal (part 12 4 p)))) NotUnderstood (λ e. input-ok p h (input-is p e)) (λ e. refl)
+by-sound : (s : State) (p : List ℕ) → Sound (setBy s p)
+unfolding setBy
+by-sound Power p = up-to-sound 1 (switchOf p) (SetPower (switchOf p)) (λ e. e)
+by-sound AudioMute p = up-to-sound 1 (switchOf p) (SetAudioMute (switchOf p)) (λ e. e)
+by-sound PictureMute p = up-to-sound 1 (switchOf p) (SetPictureMute (switchOf p)) (λ e. e)
+by-sound Volume p = volume-sound p
+by-sound Input p = input-sound p
+by-sound Scene p = up-to-sound lastScene (sceneOf p) (SetScene (sceneOf p)) (λ e. e)
+
+set-sound : (s : State) (p : List ℕ) → Sound (setOf s p)
+unfolding setOf
+set-sound s p = choose Sound (eqb (length p) 16) (setBy s p) NotUnderstood (λ e. by-sound s p) (λ e. refl)
 
 toggle-sound : (l p : List ℕ) → Sound (toggleOf l p)
 unfolding toggleOf
@@ -74,43 +86,32 @@ toggle-sound l p =
     (λ e. choose Sound (same l (ascii "TPOW")) (Understood TogglePower) _ (λ f. refl)
     (λ f. choose Sound (same l (ascii "TPMU")) (Understood TogglePictureMute) NotUnderstood (λ g. refl) (λ g. refl)))
 
-control-sound : (l p : List ℕ) → length p ≡ 16 → Sound (controlOf l p)
-unfolding controlOf
-control-sound l p h =
-    choose Sound (same l (stateLetters Power)) (upTo 1 (switchOf p) (SetPower (switchOf p))) _ (λ e. up-to-sound 1 (switchOf p) (SetPower (switchOf p)) (λ f. f))
-    (λ e. choose Sound (same l (stateLetters AudioMute)) (upTo 1 (switchOf p) (SetAudioMute (switchOf p))) _ (λ e. up-to-sound 1 (switchOf p) (SetAudioMute (switchOf p)) (λ f. f))
-    (λ e. choose Sound (same l (stateLetters PictureMute)) (upTo 1 (switchOf p) (SetPictureMute (switchOf p))) _ (λ e. up-to-sound 1 (switchOf p) (SetPictureMute (switchOf p)) (λ f. f))
-    (λ e. choose Sound (same l (stateLetters Volume)) (volumeOrder p) _ (λ e. volume-sound p)
-    (λ e. choose Sound (same l (stateLetters Input)) (inputOrder p) _ (λ e. input-sound p h)
-    (λ e. choose Sound (same l (stateLetters Scene)) (upTo 2 (sceneOf p) (SetScene (sceneOf p))) _ (λ e. up-to-sound 2 (sceneOf p) (SetScene (sceneOf p)) (λ f. f))
-    (λ e. toggle-sound l p))))))
+control-sound : (n : Named) (l p : List ℕ) → Sound (controlBy n l p)
+control-sound (Is s) l p = set-sound s p
+control-sound Nothing l p = toggle-sound l p
+
+asked-sound : (n : Named) → Sound (enquiryBy n)
+asked-sound (Is s) = refl
+asked-sound Nothing = refl
 
 enquiry-sound : (l p : List ℕ) → Sound (enquiryOf l p)
 unfolding enquiryOf
-enquiry-sound l p =
-    choose Sound (not (same p blank)) NotUnderstood _ (λ e. refl)
-    (λ e. choose Sound (same l (stateLetters Power)) (Understood (Ask Power)) _ (λ e. refl)
-    (λ e. choose Sound (same l (stateLetters AudioMute)) (Understood (Ask AudioMute)) _ (λ e. refl)
-    (λ e. choose Sound (same l (stateLetters PictureMute)) (Understood (Ask PictureMute)) _ (λ e. refl)
-    (λ e. choose Sound (same l (stateLetters Volume)) (Understood (Ask Volume)) _ (λ e. refl)
-    (λ e. choose Sound (same l (stateLetters Input)) (Understood (Ask Input)) _ (λ e. refl)
-    (λ e. choose Sound (same l (stateLetters Scene)) (Understood (Ask Scene)) NotUnderstood (λ e. refl) (λ e. refl)))))))
+enquiry-sound l p = choose Sound (not (same p blank)) NotUnderstood (enquiryBy (stateNamed l)) (λ e. refl) (λ e. asked-sound (stateNamed l))
 
 heard-sound : (m : List ℕ) → Sound (heardOf m)
-unfolding heardOf
+unfolding heardOf controlOf
 heard-sound m =
     choose Sound (not (eqb (length m) 24)) (Refused WrongLength) _ (λ e. refl)
-    (λ e. let n : length m ≡ 24 = eqb-true (length m) 24 (not-false (eqb (length m) 24) e) in
-    choose Sound (not (isOurs m)) (Refused NotForUs) _ (λ f. refl)
-    (λ f. choose Sound (eqb (getD m 2 0) typeControl) (controlOf (lettersOf m) (part 7 16 m)) (enquiryOf (lettersOf m) (part 7 16 m)) (λ g. control-sound (lettersOf m) (part 7 16 m) (part-length 7 16 m (omega arith))) (λ g. enquiry-sound (lettersOf m) (part 7 16 m))))
+    (λ e. choose Sound (not (isOurs m)) (Refused NotForUs) _ (λ f. refl)
+    (λ f. choose Sound (eqb (getD m 2 0) typeControl) (controlOf (lettersOf m) (part 7 16 m)) (enquiryOf (lettersOf m) (part 7 16 m)) (λ g. control-sound (stateNamed (lettersOf m)) (lettersOf m) (part 7 16 m)) (λ g. enquiry-sound (lettersOf m) (part 7 16 m))))
 
 -- a valid panel, setting by setting
 record Settings (k : KRecord) : Type 0 where
   powered : leb (k .power) 1 ≡ true
   sound-muted : leb (k .amut) 1 ≡ true
   picture-muted : leb (k .pmut) 1 ≡ true
-  loud : leb (k .volume) 100 ≡ true
-  staged : leb (k .scene) 2 ≡ true
+  loud : leb (k .volume) mostVolume ≡ true
+  staged : leb (k .scene) lastScene ≡ true
   fed : okInput (k .kind) (k .port) ≡ true
 
 apart : (k : KRecord) → okK k ≡ true → Settings k
@@ -119,8 +120,8 @@ apart k e =
     let p = leb (k .power) 1 in
     let a = leb (k .amut) 1 in
     let q = leb (k .pmut) 1 in
-    let v = leb (k .volume) 100 in
-    let s = leb (k .scene) 2 in
+    let v = leb (k .volume) mostVolume in
+    let s = leb (k .scene) lastScene in
     let i = okInput (k .kind) (k .port) in
     let e₁ = and-first (p && a && q && v && s) i e in
     let e₂ = and-first (p && a && q && v) s e₁ in

@@ -1,2 +1,2 @@
-pub mod Frames
-pub mod Rules
+pub mod Orders
+pub mod Replies

@@ -1,33 +1,19 @@
-// KJW: what a K panel does with a frame, and what goes back (document 01, "KJW (003)").
-use decimals::digits4;
-use octets::lay;
+// KJW: what a K panel does with a frame (document 01, "KJW (003)").
 use octets::same_bytes;
 use panels::KRecord;
 use terms::Answer;
 ghost use mathlib.Core.Path.{_≡_};
-ghost use mathlib.Core.List.{_++_};
-ghost use Prim.Native.Nat.{_+_, _≤_};
-ghost use lib.ListN.{length, replicate};
-ghost use Rattle.laws.specs.Bytes.{over, Sent};
-ghost use Rattle.decimals.specs.Decimals.{inDigits};
 ghost use Rattle.turns.specs.Turns.{Takes};
-ghost use Rattle.kjw_asks.specs.Frames.{frameOf, typeAnswer, stateLetters};
-ghost use Rattle.kjw.specs.Frames.{switchWord, sceneWord, inputWord, valueOf};
-ghost use Rattle.kjw.specs.Rules.{flipped, carried, noticed, replyOf, decided, bytesOf, turnOf};
-use kjw_asks::Heard;
-use kjw_asks::Order;
-use kjw_asks::State;
+ghost use Rattle.kjw.specs.Orders.{flipped, carried};
+ghost use Rattle.kjw.specs.Replies.{noticed, replyOf, decided, turnOf};
 use kjw_asks::hear;
 use kjw_asks::letters_of;
-
-// What goes back: nothing, the answer of sixteen `F`, that of sixteen `0`, that and a notice, or a state's value.
-pub enum Reply {
-    Silent,
-    Rejected,
-    Accepted,
-    Changed(State),
-    Value(State),
-}
+use kjw_sets::Heard;
+use kjw_sets::Order;
+use kjw_sets::State;
+use kjw_tells::Reply;
+use kjw_tells::send;
+use kjw_values::value_of;
 
 // What a panel does with what it heard.
 pub struct Decided {
@@ -43,7 +29,7 @@ pub struct Outcome {
     pub len: usize,
 }
 
-// A switch turnOf over.
+// A switch turned over.
 fn flip(v: u8) -> u8
     ensures { λ r. ⌜ r ≡ flipped v ⌝ }
 {
@@ -73,87 +59,6 @@ fn obey(k: KRecord, o: Order) -> KRecord
         Order::Ask(_) => {}
     }
     x
-}
-
-// A state's letters.
-fn state_letters(s: State) -> [u8; 4]
-    ensures { λ r. ⌜ r ≡ stateLetters s ⌝ }
-{
-    match s {
-        State::Power => *b"POWR",
-        State::AudioMute => *b"AMUT",
-        State::PictureMute => *b"PMUT",
-        State::Volume => *b"VOLU",
-        State::Input => *b"INPT",
-        State::Scene => *b"SCEN",
-    }
-}
-
-// "Fifteen `0` and 0 or 1."
-fn switch_word(v: u8) -> [u8; 16]
-    ensures { λ r. ⌜ r ≡ switchWord v ⌝ }
-{
-    if v == 0 {
-        return *b"0000000000000000";
-    }
-    *b"0000000000000001"
-}
-
-// A scene's name, "padded with `#`".
-fn scene_word(v: u8) -> [u8; 16]
-    ensures { λ r. ⌜ r ≡ sceneWord v ⌝ }
-{
-    if v == 0 {
-        return *b"auto############";
-    }
-    if v == 1 {
-        return *b"auto24pSync#####";
-    }
-    *b"general#########"
-}
-
-// Twelve `0` and the last four digits of a number.
-fn four_digits(v: u16) -> [u8; 16]
-    ensures { λ r. ⌜ r ≡ replicate 12 0x30 ++ inDigits 4 v ⌝ }
-{
-    let d = digits4(v);
-    let mut word = *b"0000000000000000";
-    word[12] = d[0];
-    word[13] = d[1];
-    word[14] = d[2];
-    word[15] = d[3];
-    word
-}
-
-// "16 decimal digits", of which a byte needs the last three.
-fn volume_word(v: u8) -> [u8; 16]
-    ensures { λ r. ⌜ r ≡ inDigits 16 v ⌝ }
-{
-    four_digits(v as u16)
-}
-
-// "Seven `0`, type [..], four `0`, port."
-fn input_word(kind: u8, port: u16) -> [u8; 16]
-    ensures { λ r. ⌜ r ≡ inputWord kind port ⌝ }
-{
-    let d = digits4(kind as u16);
-    let mut word = four_digits(port);
-    word[7] = d[3];
-    word
-}
-
-// What a state is, in the control's layout.
-fn value_of(s: State, k: KRecord) -> [u8; 16]
-    ensures { λ r. ⌜ r ≡ valueOf s k ⌝ }
-{
-    match s {
-        State::Power => switch_word(k.power),
-        State::AudioMute => switch_word(k.amut),
-        State::PictureMute => switch_word(k.pmut),
-        State::Volume => volume_word(k.volume),
-        State::Input => input_word(k.kind, k.port),
-        State::Scene => scene_word(k.scene),
-    }
 }
 
 // A notice where the value changed.
@@ -209,54 +114,6 @@ fn decide(k: KRecord, h: Heard) -> Decided
                 reply,
             }
         }
-    }
-}
-
-// "`*S`, type, four letters, 16 parameters, 0Ah", from a place on.
-fn put_frame(out: &mut [u8], at: usize, kind: u8, letters: [u8; 4], p: [u8; 16])
-    requires { ⌜ at + 24 ≤ length (now out) ⌝ }
-    ensures { λ _. ⌜ now (out .exit) ≡ over (now (out .entry)) at (frameOf kind letters p) ⌝ }
-{
-    let head = [b'*', b'S', kind];
-    let footer = [0x0Au8];
-    lay(out, at, &head);
-    lay(out, at + 3, &letters);
-    lay(out, at + 7, &p);
-    lay(out, at + 23, &footer);
-}
-
-// An answer alone; its length.
-fn put_answer(area: &mut [u8], letters: [u8; 4], p: [u8; 16]) -> usize
-    requires { ⌜ 512 ≤ length (now area) ⌝ }
-    ensures { λ r. ⌜ Sent (frameOf typeAnswer letters p) r (now (area .entry)) (now (area .exit)) ⌝ }
-{
-    put_frame(area, 0, b'A', letters, p);
-    24
-}
-
-// The answer of an accepted control, and the notice with the new value behind it; their length.
-fn put_both(area: &mut [u8], letters: [u8; 4], s: State, k: KRecord) -> usize
-    requires { ⌜ 512 ≤ length (now area) ⌝ }
-    ensures { λ r. ⌜ Sent (bytesOf (Reply.Changed s) k letters) r (now (area .entry)) (now (area .exit)) ⌝ }
-{
-    let name = state_letters(s);
-    let value = value_of(s, k);
-    put_frame(area, 0, b'A', letters, *b"0000000000000000");
-    put_frame(area, 24, b'N', name, value);
-    48
-}
-
-// The reply's bytes to the front of the area; their length.
-fn send(r: Reply, k: KRecord, letters: [u8; 4], area: &mut [u8]) -> usize
-    requires { ⌜ 512 ≤ length (now area) ⌝ }
-    ensures { λ n. ⌜ Sent (bytesOf r k letters) n (now (area .entry)) (now (area .exit)) ⌝ }
-{
-    match r {
-        Reply::Silent => 0,
-        Reply::Rejected => put_answer(area, letters, *b"FFFFFFFFFFFFFFFF"),
-        Reply::Accepted => put_answer(area, letters, *b"0000000000000000"),
-        Reply::Changed(s) => put_both(area, letters, s, k),
-        Reply::Value(s) => put_answer(area, letters, value_of(s, k)),
     }
 }
 

@@ -1,2 +1,2 @@
-pub mod Parameters
+pub mod Names
 pub mod Determined

@@ -1,47 +1,35 @@
 -- Document 01, "KJW (003)": what a frame asks, whatever the panel.
-use Prim.Native.Nat.{ℕ, _-_}
+use Prim.Native.Nat.{ℕ}
 use mathlib.Core.Bool.{Bool, not, cond, _&&_}
 use mathlib.Core.List.{List, [], _∷_}
 use lib.ListN.{length, getD}
-use lib.Dec.{eqb, leb}
+use lib.Dec.{eqb}
 use Rattle.laws.specs.Bytes.{ascii, part, same}
-use Rattle.laws.specs.Lists.{every, listed}
+use Rattle.laws.specs.Lists.{listed}
 use Rattle.terms.specs.declared.Answer.the-variants.{WrongLength, NotForUs}
-use Rattle.decimals.specs.Decimals.{isDigit, decimal}
-use Rattle.kjw_asks.specs.Frames.{typeControl, typeEnquiry, lettersOf, blank, stateLetters, off, on, auto, autoSync, general}
-use Rattle.kjw_asks.specs.declared.State.the-variants.{Power, AudioMute, PictureMute, Volume, Input, Scene}
-use Rattle.kjw_asks.specs.declared.Order.{Order}
-use Rattle.kjw_asks.specs.declared.Order.the-variants.{SetPower, TogglePower, SetAudioMute, SetPictureMute, TogglePictureMute, SetVolume, SetInput, SetScene, Ask}
-use Rattle.kjw_asks.specs.declared.Heard.{Heard}
-use Rattle.kjw_asks.specs.declared.Heard.the-variants.{Refused, NotUnderstood, Understood}
+use Rattle.kjw_asks.specs.Frames.{typeControl, typeEnquiry, lettersOf, blank}
+use Rattle.kjw_sets.specs.Words.{stateLetters}
+use Rattle.kjw_sets.specs.declared.State.{State}
+use Rattle.kjw_sets.specs.declared.State.the-variants.{Power, AudioMute, PictureMute, Volume, Input, Scene}
+use Rattle.kjw_asks.specs.declared.Named.{Named}
+use Rattle.kjw_asks.specs.declared.Named.the-variants.{Is, Nothing}
+use Rattle.kjw_sets.specs.declared.Order.the-variants.{TogglePower, TogglePictureMute, Ask}
+use Rattle.kjw_sets.specs.declared.Heard.{Heard}
+use Rattle.kjw_sets.specs.declared.Heard.the-variants.{Refused, NotUnderstood, Understood}
+use Rattle.kjw_sets.specs.Sets.{setOf}
 
--- "fifteen `0` and 0 or 1": the switch that is written, 2 where it is none
-unfoldable pub switchOf : List ℕ → ℕ
-switchOf p = cond (same p off) 0 (cond (same p on) 1 2)
+-- the states by their letters: "POWR, AMUT, PMUT, VOLU, INPT, SCEN"
+abbrev pub states : List State
+states = Power ∷ AudioMute ∷ PictureMute ∷ Volume ∷ Input ∷ Scene ∷ []
 
--- "`auto`, `auto24pSync` or `general`, padded with `#`": the scene's number, 3 where it is none
-unfoldable pub sceneOf : List ℕ → ℕ
-sceneOf p = cond (same p auto) 0 (cond (same p autoSync) 1 (cond (same p general) 2 3))
+-- the first of some states that has these letters
+unfoldable pub namedIn : List State → List ℕ → Named
+namedIn [] l = Nothing
+namedIn (s ∷ ss) l = cond (same l (stateLetters s)) (Is s) (namedIn ss l)
 
--- "VOLU, 16 decimal digits, 0 to 100 (house)"
-unfoldable pub isVolume : List ℕ → Bool
-isVolume p = every isDigit p && leb (decimal p) 100
-
--- "INPT is seven `0`, type 1, 3, 4 or 5, four `0`, port 0001 to 9999"
-unfoldable pub isInput : List ℕ → Bool
-isInput p =
-    same (part 0 7 p) (ascii "0000000") && listed (ascii "1345") (getD p 7 0) && same (part 8 4 p) (ascii "0000")
-    && every isDigit (part 12 4 p) && leb 1 (decimal (part 12 4 p))
-
--- an order where its number is at most so much
-unfoldable pub upTo : ℕ → ℕ → Order → Heard
-upTo most v o = cond (leb v most) (Understood o) NotUnderstood
-
-unfoldable pub volumeOrder : List ℕ → Heard
-volumeOrder p = cond (isVolume p) (Understood (SetVolume (decimal p))) NotUnderstood
-
-unfoldable pub inputOrder : List ℕ → Heard
-inputOrder p = cond (isInput p) (Understood (SetInput (getD p 7 0 - 0x30) (decimal (part 12 4 p)))) NotUnderstood
+-- the state that the letters name
+unfoldable pub stateNamed : List ℕ → Named
+stateNamed l = namedIn states l
 
 -- "TPOW and TPMU with sixteen `#`"; "All else: 6."
 unfoldable pub toggleOf : List ℕ → List ℕ → Heard
@@ -51,28 +39,21 @@ toggleOf l p =
     (cond (same l (ascii "TPMU")) (Understood TogglePictureMute)
     NotUnderstood))
 
--- C: what the letters and the parameters order
+-- C: the letters name a state, or a toggle
+abbrev pub controlBy : Named → List ℕ → List ℕ → Heard
+controlBy (Is s) l p = setOf s p
+controlBy Nothing l p = toggleOf l p
+
 unfoldable pub controlOf : List ℕ → List ℕ → Heard
-controlOf l p =
-    cond (same l (stateLetters Power)) (upTo 1 (switchOf p) (SetPower (switchOf p)))
-    (cond (same l (stateLetters AudioMute)) (upTo 1 (switchOf p) (SetAudioMute (switchOf p)))
-    (cond (same l (stateLetters PictureMute)) (upTo 1 (switchOf p) (SetPictureMute (switchOf p)))
-    (cond (same l (stateLetters Volume)) (volumeOrder p)
-    (cond (same l (stateLetters Input)) (inputOrder p)
-    (cond (same l (stateLetters Scene)) (upTo 2 (sceneOf p) (SetScene (sceneOf p)))
-    (toggleOf l p))))))
+controlOf l p = controlBy (stateNamed l) l p
 
 -- "E, with sixteen `#`: POWR, AMUT, PMUT, VOLU, INPT, SCEN [..] All else: 6."
+abbrev pub enquiryBy : Named → Heard
+enquiryBy (Is s) = Understood (Ask s)
+enquiryBy Nothing = NotUnderstood
+
 unfoldable pub enquiryOf : List ℕ → List ℕ → Heard
-enquiryOf l p =
-    cond (not (same p blank)) NotUnderstood
-    (cond (same l (stateLetters Power)) (Understood (Ask Power))
-    (cond (same l (stateLetters AudioMute)) (Understood (Ask AudioMute))
-    (cond (same l (stateLetters PictureMute)) (Understood (Ask PictureMute))
-    (cond (same l (stateLetters Volume)) (Understood (Ask Volume))
-    (cond (same l (stateLetters Input)) (Understood (Ask Input))
-    (cond (same l (stateLetters Scene)) (Understood (Ask Scene))
-    NotUnderstood))))))
+enquiryOf l p = cond (not (same p blank)) NotUnderstood (enquiryBy (stateNamed l))
 
 -- "Wrong `*S`, footer, or a type not C or E" makes it none of ours
 unfoldable pub isOurs : List ℕ → Bool

@@ -28,7 +28,21 @@ every-from f l i d h = ap (every f) (from l i d h)
 pub every-behind : {A : Type 0} (f : A → Bool) (l : List A) (i : ℕ) → length l ≤ i → every f (drop i l) ≡ true
 every-behind f l i h = ap (every f) (behind l i h)
 
--- the same of the first n elements: there the element at i is the list's own
+-- a loop that asks f of each element in turn: before i it said yes, so it is said of all what is said of those from i on
+module _ {A : Type 0} (f : A → Bool) (l : List A) (i : ℕ) (e : every f l ≡ every f (drop i l)) where
+  -- it says no of the element at i, and so of all
+  pub every-no : (d : A) → i < length l → f (getD l i d) ≡ false → false ≡ every f l
+  every-no d h n = sym (e ∙ every-from f l i d h ∙ rw n)
+
+  -- it says yes: the rest decides
+  pub every-yes : (d : A) → i < length l → f (getD l i d) ≡ true → every f l ≡ every f (drop (i + 1) l)
+  every-yes d h y = e ∙ every-from f l i d h ∙ rw y
+
+  -- there is no rest
+  pub every-all : length l ≤ i → true ≡ every f l
+  every-all h = sym (e ∙ every-behind f l i h)
+
+-- the first n elements from i on: there the element at i is the list's own
 pub first-from : {A : Type 0} (l : List A) (n i : ℕ) (d : A) → i < n → n ≤ length l → drop i (take n l) ≡ getD l i d ∷ drop (i + 1) (take n l)
 first-from l n i d h k =
     let e : i < length (take n l) = rw (length-take-le n l k) h in

@@ -8,7 +8,7 @@ use lib.IntN.{ℤ, pos, negsuc, sucℤ, _+ℤ_, _-ℤ_, +ℤ-one, +ℤ-idl}
 use lib.Signed.{leZ}
 use mir.Syntax.{Width}
 use mir.Val.{toZ, ofZ, SFits, hbits}
-use mir.Facts.{toZ-ofZ}
+use mir.Facts.{toZ-ofZ, toZ-pos}
 
 -- z is the number, t what its bits say
 pub from-low : (lo hi z t : ℤ) → t ≡ z → leZ lo t ≡ true → leZ t hi ≡ (leZ lo z && leZ z hi)
@@ -21,6 +21,21 @@ under-low lo hi z t e p = rw (ap (leZ lo) (sym e) ∙ p)
 pub zero-less : (n : ℕ) → 0 < n → pos 0 -ℤ pos n ≡ negsuc (n - 1)
 zero-less zero h = absurd (omega arith)
 zero-less (suc n) h = +ℤ-idl (negsuc n) ∙ ap negsuc (omega arith)
+
+-- the same as code of width w holds it: the size is what its bits say, and 0 less it fits
+module _ (w : Width) (n : ℕ) (h : n < 2 ^ hbits w) where
+  minus : pos 0 -ℤ toZ w n ≡ pos 0 -ℤ pos n
+  minus = ap (λ (z : ℤ). pos 0 -ℤ z) (toZ-pos w h)
+
+  pub minus-fits : SFits w (pos 0 -ℤ toZ w n)
+  minus-fits = subst (SFits w) (sym minus) (less n h)
+    where
+      less : (k : ℕ) → k < 2 ^ hbits w → SFits w (pos 0 -ℤ pos k)
+      less zero l = record { sfits = l }
+      less (suc k) l = let f : SFits w (negsuc (suc k - 1)) = record { sfits = omega arith } in subst (SFits w) (sym (zero-less (suc k) (omega arith))) f
+
+  pub minus-held : toZ w (ofZ w (pos 0 -ℤ toZ w n)) ≡ pos 0 -ℤ pos n
+  minus-held = toZ-ofZ minus-fits ∙ minus
 
 -- a number that is not below 0, and one that is
 from-zero : (z : ℤ) → leZ (pos 0) z ≡ true → (n : ℕ) × (z ≡ pos n)

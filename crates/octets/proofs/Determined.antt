@@ -3,14 +3,18 @@ use mathlib.Core.Path.{_≡_, sym, _∙_}
 use mathlib.Core.Bool.{Bool}
 use mathlib.Core.List.{List, [], _∷_}
 use Prim.Native.Nat.{ℕ, _≤_}
+use lib.Count.{ones}
+use lib.Dec.{eqb}
 use lib.ListN.{getD}
 use Rattle.laws.specs.Bytes.{same, begins, laid}
-use Rattle.laws.specs.Lists.{listed, within}
+use Rattle.laws.specs.Lists.{every, listed, within}
 use Rattle.laws.specs.Numbers.{number, inBytes}
-use lib.Count.{ones}
 
 pub same-bytes-one : (a b : List ℕ) (r r′ : Bool) → r ≡ same a b → r′ ≡ same a b → r ≡ r′
 same-bytes-one a b r r′ p q = p ∙ sym q
+
+pub all-are-one : (s : List ℕ) (b : ℕ) (r r′ : Bool) → r ≡ every (eqb b) s → r′ ≡ every (eqb b) s → r ≡ r′
+all-are-one s b r r′ p q = p ∙ sym q
 
 pub is-listed-one : (l : List ℕ) (x : ℕ) (r r′ : Bool) → r ≡ listed l x → r′ ≡ listed l x → r ≡ r′
 is-listed-one l x r r′ p q = p ∙ sym q

@@ -1,13 +1,13 @@
-// Leaves that many crates use: a byte read at any place, bytes laid over an area, two areas compared, numbers listed and
-ghost use lib.Count.{ones};
-ghost use Prim.Native.Nat.{_≤_};
-
-// bounded, and numbers high byte first.
+// Leaves that many crates use: a byte read at any place, bytes laid over an area, areas compared, numbers listed and bounded, and
+// numbers high byte first.
 ghost use mathlib.Core.Path.{_≡_};
 ghost use mathlib.Core.List.{[], _∷_};
+ghost use Prim.Native.Nat.{_≤_};
+ghost use lib.Count.{ones};
+ghost use lib.Dec.{eqb};
 ghost use lib.ListN.{getD};
 ghost use Rattle.laws.specs.Bytes.{same, begins, laid};
-ghost use Rattle.laws.specs.Lists.{listed, within};
+ghost use Rattle.laws.specs.Lists.{every, listed, within};
 ghost use Rattle.laws.specs.Numbers.{number, inBytes};
 
 // Whether two areas hold the same bytes.
@@ -20,6 +20,20 @@ pub fn same_bytes(a: &[u8], b: &[u8]) -> bool
     let mut i = 0;
     while i < a.len() {
         if a[i] != b[i] {
+            return false;
+        }
+        i += 1;
+    }
+    true
+}
+
+// Whether every byte is b.
+pub fn all_are(s: &[u8], b: u8) -> bool
+    ensures { λ r. ⌜ r ≡ every (eqb b) (now (s .entry)) ⌝ }
+{
+    let mut i = 0;
+    while i < s.len() {
+        if s[i] != b {
             return false;
         }
         i += 1;

@@ -1,4 +1,3 @@
 pub mod Boxes
 pub mod Determined
-mod Distinct
 pub mod Ranges

@@ -28,6 +28,14 @@ presets = 0 ∷ 2 ∷ 3 ∷ []
 abbrev pub kinds : List ℕ
 kinds = 1 ∷ 3 ∷ 4 ∷ 5 ∷ []
 
+-- "VOLU, 16 decimal digits, 0 to 100 (house)"
+abbrev pub mostVolume : ℕ
+mostVolume = 100
+
+-- the scenes' numbers: `auto` 0, `auto24pSync` 1, `general` 2
+abbrev pub lastScene : ℕ
+lastScene = 2
+
 -- "W: PHASE 50, [.. the table's start values ..], shifts 0; COMPOSITE, all connectors ON, D65, gains 2048, biases 0."
 abbrev pub startW : WRecord
 startW = record {

@@ -7,10 +7,10 @@ use lib.ListN.{take, replicate}
 use lib.IntN.{ℤ, pos, negsuc}
 use lib.Signed.{leZ}
 use Rattle.laws.specs.Lists.{every, listed, within}
-use Rattle.settings.specs.Table.{mosts}
+use Rattle.settings.specs.Table.{leastShift, mostShift, mosts}
 use Rattle.terms.specs.declared.GroupId.{GroupId}
 use Rattle.terms.specs.declared.UnitId.{UnitId}
-use Rattle.panels.specs.Records.{familyW, familyK, connectors, presets, kinds}
+use Rattle.panels.specs.Records.{familyW, familyK, connectors, presets, kinds, mostVolume, lastScene}
 use Rattle.panels.specs.declared.Inputs.{Inputs}
 use Rattle.panels.specs.declared.Balance.{Balance}
 use Rattle.panels.specs.declared.WRecord.{WRecord}
@@ -20,7 +20,7 @@ use Rattle.panels.specs.declared.DisplayBox.{DisplayBox}
 
 -- "SHIFTH or SHIFTV with -30 to +30"
 unfoldable pub okShift : ℤ → Bool
-okShift z = leZ (negsuc 29) z && leZ z (pos 30)
+okShift z = leZ leastShift z && leZ z (pos mostShift)
 
 -- "A gain is taken modulo 4096": 0 to 4095
 unfoldable pub okGain : ℕ → Bool
@@ -48,7 +48,7 @@ okInput kind port = listed kinds kind && leb 1 port && leb port 9999
 -- every setting of family K in its range
 unfoldable pub okK : KRecord → Bool
 okK k =
-    leb (k .power) 1 && leb (k .amut) 1 && leb (k .pmut) 1 && leb (k .volume) 100 && leb (k .scene) 2
+    leb (k .power) 1 && leb (k .amut) 1 && leb (k .pmut) 1 && leb (k .volume) mostVolume && leb (k .scene) lastScene
     && okInput (k .kind) (k .port)
 
 -- "A W panel has a group ID 1 to 99 and a unit ID 1 to 99"
@@ -60,10 +60,14 @@ unfoldable pub zeroIds : GroupId → UnitId → Bool
 zeroIds g u = eqb (g .0) 0 && eqb (u .0) 0
 
 -- "Each panel is of family W [..] or family K": its IDs, and the settings of its own family
-unfoldable pub okPanel : Panel → Bool
-okPanel p =
+unfoldable pub okFamily : Panel → Bool
+okFamily p =
     cond (eqb (p .family) familyW) (okIds (p .group) (p .unit) && okW (p .w))
     (eqb (p .family) familyK && zeroIds (p .group) (p .unit) && okK (p .k))
+
+-- one panel by itself
+unfoldable pub okPanel : Panel → Bool
+okPanel p = okFamily p
 
 -- two W panels that share both IDs: a group is compared with a group, a unit with a unit
 unfoldable pub share : Panel → Panel → Bool

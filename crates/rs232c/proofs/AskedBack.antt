@@ -16,17 +16,20 @@ use Rattle.panels.specs.declared.Inputs.{Inputs}
 use Rattle.panels.specs.declared.Balance.{Balance}
 use Rattle.panels.specs.declared.WRecord.{WRecord}
 use Rattle.rs232c_asks.specs.Asks.{heardOf, valuesOf}
-use Rattle.rs232c.specs.Orders.{Say, silent, say, placeOf, usedAfter, presetAfter, configuredBy, turnedOff, onAfter, selectedBy, gainOf, biasOf, decode, put, balancedBy, carried}
+use Rattle.rs232c_levels.specs.Levels.{Say, silent, say, gainOf, biasOf, decode, put, balancedBy}
+use Rattle.rs232c.specs.Orders.{carried}
+use Rattle.rs232c_inputs.specs.Inputs.{placeOf, usedAfter, presetAfter, configuredBy, turnedOff, onAfter, selectedBy}
 use Rattle.rs232c_asks.specs.Commands.{connectorMarked, presetMarked, connectorOf, presetOf, actOf, selectGood}
-use Rattle.rs232c.specs.Replies.{bytesOf, gainBits, biasBits, sensed, remoteOf, replyTo, turned, turnOf}
-use Rattle.rs232c.specs.declared.Three.{Three}
+use Rattle.rs232c_tells.specs.Texts.{bytesOf, gainBits, biasBits, sensed, remoteOf, replyTo}
+use Rattle.rs232c.specs.Replies.{turned, turnOf}
+use Rattle.rs232c_tells.specs.declared.Three.{Three}
 use Rattle.rs232c_asks.specs.declared.Order.{Order}
 use Rattle.rs232c_asks.specs.declared.Order.the-variants.{Config, Select, Levels, Sense, Remote}
 use Rattle.rs232c_asks.specs.declared.Heard.the-variants.{Understood}
-use Rattle.rs232c.specs.declared.Reply.the-variants.{State, Balances}
+use Rattle.rs232c_tells.specs.declared.Reply.the-variants.{State, Balances}
 use Rattle.rs232c.proofs.Codes.{select-good}
-use Rattle.rs232c.proofs.Decode.{puts-at}
-use Rattle.rs232c.proofs.Switches.{place-good, act-good, off-other, off-done, off-last}
+use Rattle.rs232c_levels.proofs.Decode.{puts-at}
+use Rattle.rs232c_inputs.proofs.Switches.{place-good, act-good, off-other, off-done, off-last}
 
 -- ---- an order that is answered 0 is carried out
 

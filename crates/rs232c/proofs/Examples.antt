@@ -10,9 +10,12 @@ use Rattle.terms.specs.declared.Answer.the-variants.{EnvelopeWrong, NotUndersto
 use Rattle.turns.specs.Turns.{taken}
 use Rattle.panels.specs.Records.{startW}
 use Rattle.rs232c_asks.specs.Asks.{isForeign, isBroken, configCommand, selectCommand, levelsCommand, senseCommand, commandOf, heardOf}
-use Rattle.rs232c.specs.Orders.{placeOf, usedAfter, presetAfter, turnedOff, onAfter, decode, balancedBy, carried}
+use Rattle.rs232c_inputs.specs.Inputs.{placeOf, usedAfter, presetAfter, turnedOff, onAfter}
+use Rattle.rs232c_levels.specs.Levels.{decode, balancedBy}
+use Rattle.rs232c.specs.Orders.{carried}
 use Rattle.rs232c_asks.specs.Commands.{connectorGood, presetGood, configGood, selectGood}
-use Rattle.rs232c.specs.Replies.{frameOf, bytesOf, biasBits, sensed, replyTo, turned, turnOf}
+use Rattle.rs232c_tells.specs.Texts.{frameOf, bytesOf, biasBits, sensed, replyTo}
+use Rattle.rs232c.specs.Replies.{turned, turnOf}
 
 -- * `02 03 01 41 6E 4D` at start: `02 04 41 01 7E 01 3B`
 remote : taken 512 (turnOf (0x02 ∷ 0x03 ∷ 0x01 ∷ 0x41 ∷ 0x6e ∷ 0x4d ∷ [])) startW .reply ≡ 0x02 ∷ 0x04 ∷ 0x41 ∷ 0x01 ∷ 0x7e ∷ 0x01 ∷ 0x3b ∷ []

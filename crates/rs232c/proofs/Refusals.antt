@@ -12,10 +12,11 @@ use Rattle.turns.specs.Turns.{taken}
 use Rattle.turns.proofs.Turns.{refusal-leaves as leaves}
 use Rattle.panels.specs.declared.WRecord.{WRecord}
 use Rattle.rs232c_asks.specs.Asks.{isForeign, isBroken, heardOf, valuesOf}
-use Rattle.rs232c.specs.Replies.{bytesOf, turned, turnOf}
+use Rattle.rs232c_tells.specs.Texts.{bytesOf}
+use Rattle.rs232c.specs.Replies.{turned, turnOf}
 use Rattle.rs232c_asks.specs.declared.Heard.{Heard}
 use Rattle.rs232c_asks.specs.declared.Heard.the-variants.{Refused, Broken, NotUnderstood, Understood}
-use Rattle.rs232c.specs.declared.Reply.the-variants.{Nak}
+use Rattle.rs232c_tells.specs.declared.Reply.the-variants.{Nak}
 
 turn-leaves : (h : Heard) (vs : List ℕ) (w : WRecord) → (numberOf (turned h vs w .answer) ≡ 0 → ⊥) → turned h vs w .after ≡ w
 unfolding turned

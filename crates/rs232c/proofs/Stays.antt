@@ -12,7 +12,8 @@ use Rattle.turns.proofs.Turns.{either}
 use Rattle.panels.specs.declared.Inputs.{Inputs}
 use Rattle.panels.specs.declared.WRecord.{WRecord}
 use Rattle.rs232c_asks.specs.Asks.{heardOf, valuesOf}
-use Rattle.rs232c.specs.Orders.{withInputs, configuredBy, selectedBy, carried}
+use Rattle.rs232c.specs.Orders.{withInputs, carried}
+use Rattle.rs232c_inputs.specs.Inputs.{configuredBy, selectedBy}
 use Rattle.rs232c_asks.specs.Commands.{configGood, selectGood}
 use Rattle.rs232c.specs.Replies.{turned, turnOf}
 use Rattle.rs232c_asks.specs.declared.Order.the-variants.{Config, Select, Levels, Sense, Remote}

@@ -22,7 +22,9 @@ use Rattle.panels.specs.declared.Balance.{Balance}
 use Rattle.panels.specs.declared.WRecord.{WRecord}
 use Rattle.terms.specs.declared.Answer.the-variants.{WrongLength, NotForUs}
 use Rattle.rs232c_asks.specs.Asks.{isForeign, isBroken, configCommand, selectCommand, levelsCommand, senseCommand, commandOf, heardOf, valuesOf}
-use Rattle.rs232c.specs.Orders.{Say, silent, say, placeOf, usedAfter, presetAfter, configuredBy, turnedOff, onAfter, selectedBy, gainOf, biasOf, puts, decode, balancedBy, carried}
+use Rattle.rs232c_levels.specs.Levels.{Say, silent, say, gainOf, biasOf, puts, decode, balancedBy}
+use Rattle.rs232c.specs.Orders.{carried}
+use Rattle.rs232c_inputs.specs.Inputs.{placeOf, usedAfter, presetAfter, configuredBy, turnedOff, onAfter, selectedBy}
 use Rattle.rs232c_asks.specs.Commands.{connectorMarked, presetMarked, connectorOf, presetOf, connectorGood, presetGood, configGood, selectGood, actOf}
 use Rattle.rs232c.specs.Replies.{turned, turnOf}
 use Rattle.rs232c_asks.specs.declared.Order.{Order}

@@ -1,6 +1,8 @@
 // RS-232C: what a frame asks, whatever the panel (document 01, "RS-232C (002, 004)").
 use octets::byte_at;
 use octets::is_listed;
+use panels::CONNECTORS;
+use panels::PRESETS;
 use sums::sums_to_zero;
 use terms::Answer;
 ghost use mathlib.Core.Path.{_≡_};
@@ -73,14 +75,14 @@ fn is_broken(m: &[u8]) -> bool
 fn is_connector(code: u8) -> bool
     ensures { λ r. ⌜ r ≡ listed connectors code ⌝ }
 {
-    let connectors = [0u8, 2, 4, 5, 6, 7, 8, 9, 10, 11];
+    let connectors = CONNECTORS;
     is_listed(&connectors, code)
 }
 
 fn is_preset(code: u8) -> bool
     ensures { λ r. ⌜ r ≡ listed presets code ⌝ }
 {
-    let presets = [0u8, 2, 3];
+    let presets = PRESETS;
     is_listed(&presets, code)
 }
 

@@ -7,10 +7,12 @@ use Rattle.decimals.specs.Plain.{widthFrom, width, plain}
 use Rattle.sums.specs.Sums.{sumOf}
 use Rattle.panels.specs.Records.{noBox}
 use Rattle.configure.specs.Configure.{askedAt, asked, configured}
-use Rattle.panels.specs.Valid.{zeroIds, okPanel, valid}
-use Rattle.script_words.specs.Words.{words, numberAt, isHexDigit, hexValue, isHex, bytesIn, bytesAt}
+use Rattle.panels.specs.Valid.{zeroIds, okFamily, okPanel, valid}
+use Rattle.script_words.specs.Words.{words, numberAt, bytesIn, bytesAt}
+use Rattle.script_hex.specs.Hex.{isHexDigit, hexValue, isHex}
 use Rattle.script_words.specs.Kinds.{isFamily, isKind, shaped}
-use Rattle.script_lines.specs.Orders.{asks, panelKinds, panelsIn, asksBox, configuration, configurationOf, orderIn, isPassedOver, orderOf}
+use Rattle.script_lines.specs.Orders.{asks, panelKinds, asksBox, orderIn, isPassedOver, orderOf}
+use Rattle.script_boxes.specs.Boxes.{panelsIn, configuration, configurationOf}
 use Rattle.script_text.specs.Texts.{numberText}
 use Rattle.script_orders.specs.Answers.{writes, boxed, isThere, shownAt, summed, ordered, answered}
 
@@ -31,5 +33,5 @@ unfolding answered ordered orderOf isPassedOver asksBox panelsIn words asks orde
 nothing-there = refl
 
 bad-box : answered noBox (ascii "box K 0 1") ≡ record { box = noBox; text = ascii "box 7" ++ (0x0a ∷ []) }
-unfolding answered ordered orderOf isPassedOver asksBox panelsIn panelKinds words asks orderIn shaped isKind isFamily isNumeral leadsZero upTo isDigit decimal numberAt writes boxed configurationOf configuration configured asked askedAt valid okPanel zeroIds numberText plain width widthFrom inDigits
+unfolding answered ordered orderOf isPassedOver asksBox panelsIn panelKinds words asks orderIn shaped isKind isFamily isNumeral leadsZero upTo isDigit decimal numberAt writes boxed configurationOf configuration configured asked askedAt valid okPanel okFamily zeroIds numberText plain width widthFrom inDigits
 bad-box = refl

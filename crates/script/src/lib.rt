@@ -1,9 +1,9 @@
 // What a line of a script does to the box, and what it writes: the order that the line is, carried out (docs/SCRIPTS.md).
+use addresses::Line;
 use panels::DisplayBox;
 use script_lines::Order;
 use script_lines::order_of;
 use script_orders::Answered;
-use script_orders::Way;
 use script_orders::answer_advert;
 use script_orders::answer_box;
 use script_orders::answer_message;
@@ -23,9 +23,9 @@ pub fn answer_line(b: DisplayBox, line: &[u8], out: &mut [u8]) -> Answered
         Order::Passed => Answered { after: b, len: 0 },
         Order::Unread => say(b, out, b"unread"),
         Order::Box => answer_box(line, out),
-        Order::Rs232 => answer_message(Way::Serial, b, line, out),
-        Order::Kjw => answer_message(Way::Frame, b, line, out),
-        Order::Tcp => answer_message(Way::Packet, b, line, out),
+        Order::Rs232 => answer_message(Line::Rs232c, b, line, out),
+        Order::Kjw => answer_message(Line::Kjw, b, line, out),
+        Order::Tcp => answer_message(Line::Tcp, b, line, out),
         Order::Udp => answer_udp(b, line, out),
         Order::Show => answer_show(b, line, out),
         Order::Advert => answer_advert(b, line, out),

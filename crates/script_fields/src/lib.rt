@@ -1,4 +1,5 @@
 // The line of an advert's fields (docs/SCRIPTS.md, `advert`).
+use script_forms::put_numbers;
 use script_text::put_bytes_text;
 use script_text::put_number_text;
 use sdap::Advert;
@@ -13,9 +14,8 @@ fn put_head(out: &mut [u8], at: usize, a: Advert) -> usize
     let location = a.location;
     let b = put_number_text(out, at, b"answer 0 category ", a.category as u32);
     let c = put_bytes_text(out, b, b" product ", &product);
-    let d = put_number_text(out, c, b" serial ", a.serial);
-    let e = put_number_text(out, d, b" power ", a.power as u32);
-    put_bytes_text(out, e, b" location ", &location)
+    let d = put_numbers(out, c, b" serial # power #", &[a.serial, a.power as u32]);
+    put_bytes_text(out, d, b" location ", &location)
 }
 
 // Its addresses, each as one number.
@@ -23,11 +23,14 @@ fn put_addresses(out: &mut [u8], at: usize, a: Advert) -> usize
     ensures { λ r. ⌜ Puts (addressesText a) (now (out .entry)) at (now (out .exit)) r ⌝ }
 {
     let accepted = a.accepted;
-    let b = put_number_text(out, at, b" ip ", a.connected);
-    let c = put_number_text(out, b, b" accepted ", accepted[0]);
-    let d = put_number_text(out, c, b" ", accepted[1]);
-    let e = put_number_text(out, d, b" ", accepted[2]);
-    put_number_text(out, e, b" ", accepted[3])
+    let numbers = [
+        a.connected,
+        accepted[0],
+        accepted[1],
+        accepted[2],
+        accepted[3],
+    ];
+    put_numbers(out, at, b" ip # accepted # # # #", &numbers)
 }
 
 // Its fields behind them.
@@ -36,11 +39,11 @@ fn put_tail(out: &mut [u8], at: usize, a: Advert) -> usize
 {
     let region = a.region;
     let name = a.name;
+    let ids = [a.group.0 as u32, a.unit.0 as u32];
     let b = put_number_text(out, at, b" error ", a.error as u32);
     let c = put_bytes_text(out, b, b" region ", &region);
     let d = put_bytes_text(out, c, b" name ", &name);
-    let e = put_number_text(out, d, b" group ", a.group.0 as u32);
-    put_number_text(out, e, b" unit ", a.unit.0 as u32)
+    put_numbers(out, d, b" group # unit #", &ids)
 }
 
 // The line of an advert's fields.

@@ -2,13 +2,8 @@
 use Prim.Native.Nat.{ℕ}
 use mathlib.Core.Path.{_≡_, sym, _∙_}
 use mathlib.Core.List.{List}
-use Rattle.laws.specs.Bytes.{Sent}
-use Rattle.laws.proofs.Bytes.{sent-one}
-use Rattle.script_lines.specs.Orders.{configurationOf, orderOf}
+use Rattle.script_lines.specs.Orders.{orderOf}
 use Rattle.script_lines.specs.declared.Order.{Order}
-
-pub configuration-in-one : (line : List ℕ) (r r′ : ℕ) (area x x′ : List ℕ) → Sent (configurationOf line) r area x → Sent (configurationOf line) r′ area x′ → (r ≡ r′) × (x ≡ x′)
-configuration-in-one line = sent-one (configurationOf line)
 
 pub order-of-one : (line : List ℕ) (r r′ : Order) → r ≡ orderOf line → r′ ≡ orderOf line → r ≡ r′
 order-of-one line r r′ p q = p ∙ sym q

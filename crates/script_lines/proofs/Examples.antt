@@ -5,9 +5,11 @@ use Prim.Native.String.{String}
 use lib.ListN.{replicate}
 use Rattle.laws.specs.Bytes.{ascii}
 use Rattle.decimals.specs.Decimals.{isDigit, decimal, leadsZero, isNumeral, upTo}
-use Rattle.script_words.specs.Words.{words, isHexDigit, hexValue, isHex, bytesIn, bytesAt, numberAt}
+use Rattle.script_words.specs.Words.{words, bytesIn, bytesAt, numberAt}
+use Rattle.script_hex.specs.Hex.{isHexDigit, hexValue, isHex}
 use Rattle.script_words.specs.Kinds.{isFamily, isKind, shaped}
-use Rattle.script_lines.specs.Orders.{asks, panelKinds, panelsIn, asksBox, configuration, configurationOf, orderIn, isPassedOver, orderOf}
+use Rattle.script_lines.specs.Orders.{asks, panelKinds, asksBox, orderIn, isPassedOver, orderOf}
+use Rattle.script_boxes.specs.Boxes.{panelsIn, configuration, configurationOf}
 use Rattle.script_lines.specs.declared.Order.{Order}
 use Rattle.script_lines.specs.declared.Order.the-variants.{Passed, Unread, Box, Rs232, Kjw, Tcp, Udp, Show, Advert, Write, Sum}
 

@@ -1,25 +1,112 @@
--- The rows of orders: one that is asked is the order, and one that is not leaves it to those behind it.
-use Prim.Native.Nat.{ℕ}
-use mathlib.Core.Bool.{false, true}
-use mathlib.Core.List.{List, [], _∷_}
-use mathlib.Core.Path.{_∙_, _≡_, refl, sym}
-use lib.ListN.{length, take}
-use Rattle.script_lines.specs.Orders.{Row, asks, orderIn}
+-- The rows of orders: a row's word and kinds stand where the tables say, one that is asked is the order, and one that is not leaves
+-- it to those behind it.
+use Prim.Native.Nat.{_+_, _-_, _<_, _≤_, ℕ}
+use mathlib.Core.Bool.{Bool, _&&_, false, true}
+use mathlib.Core.List.{List, [], _++_, _∷_, map}
+use mathlib.Core.Path.{_∙_, _≡_, ap, refl, sym}
+use lib.Dec.{T, leb, leb→le}
+use lib.ListN.{List·getD-map, drop, getD, length, take}
+use Rattle.laws.specs.Bytes.{part, same}
+use Rattle.laws.specs.Lists.{everyBelow}
+use Rattle.laws.proofs.Lists.{behind, from, same-is}
+use Rattle.laws.proofs.Table.{and-left, and-right, below, sure}
+use Rattle.script_lines.specs.Orders.{Row, asks, orderIn, rows}
 use Rattle.script_words.specs.Words.{before, wordAt}
-use Rattle.script_lines.specs.declared.Order.the-variants.{Unread}
+use Rattle.script_lines.specs.declared.Order.the-variants.{Passed, Unread}
 use Rattle.script_words.proofs.Words.{before-take, word-here}
-
-pub asked : (r : Row) (rs : List Row) (line : List ℕ) → asks (r .word) (r .kinds) line ≡ true → orderIn (r ∷ rs) line ≡ r .order
-unfolding orderIn
-asked r rs line e = rw e
-
-pub not-asked : (r : Row) (rs : List Row) (line : List ℕ) → asks (r .word) (r .kinds) line ≡ false → orderIn (r ∷ rs) line ≡ orderIn rs line
-unfolding orderIn
-not-asked r rs line e = rw e
-
-pub none-asked : (line : List ℕ) → orderIn [] line ≡ Unread
-unfolding orderIn
-none-asked line = refl
 
 pub first-word : (line : List ℕ) → take (length (before 0x20 line)) line ≡ wordAt 0 line
 first-word line = before-take 0x20 line ∙ sym (word-here line 0 0 refl)
+
+-- ---- the rows as the code holds them
+
+abbrev pub many : ℕ
+many = length rows
+
+abbrev none : Row
+none = record { word = []; kinds = []; order = Passed }
+
+abbrev pub rowAt : ℕ → Row
+rowAt i = getD rows i none
+
+-- the lists of all rows, one behind the other
+abbrev joined : List (List ℕ) → List ℕ
+joined [] = []
+joined (l ∷ ls) = l ++ joined ls
+
+abbrev pub wordTable : List ℕ
+wordTable = joined (map (λ (r : Row). r .word) rows)
+
+abbrev pub kindTable : List ℕ
+kindTable = joined (map (λ (r : Row). r .kinds) rows)
+
+-- where each ends, behind where the first begins
+abbrev ends : ℕ → List (List ℕ) → List ℕ
+ends n [] = n ∷ []
+ends n (l ∷ ls) = n ∷ ends (n + length l) ls
+
+abbrev pub wordEnds : List ℕ
+wordEnds = ends 0 (map (λ (r : Row). r .word) rows)
+
+abbrev pub kindEnds : List ℕ
+kindEnds = ends 0 (map (λ (r : Row). r .kinds) rows)
+
+-- the part of a table from one end to the next is the row's list
+abbrev between : List ℕ → List ℕ → ℕ → List ℕ
+between table ends i = part (getD ends i 0) (getD ends (i + 1) 0 - getD ends i 0) table
+
+pub record Held (table ends : List ℕ) (i : ℕ) (l : List ℕ) : Type 0 where
+  pub start : getD ends i 0 ≤ getD ends (i + 1) 0
+  pub end : getD ends (i + 1) 0 ≤ length table
+  pub is : between table ends i ≡ l
+
+rising : List ℕ → ℕ → Bool
+rising ends i = leb (getD ends i 0) (getD ends (i + 1) 0)
+
+right : List ℕ → List ℕ → (Row → List ℕ) → ℕ → Bool
+right table ends f i = leb (getD ends (i + 1) 0) (length table) && same (between table ends i) (f (rowAt i))
+
+held : List ℕ → List ℕ → (Row → List ℕ) → ℕ → Bool
+held table ends f i = rising ends i && right table ends f i
+
+law : (table ends : List ℕ) (f : Row → List ℕ) → T (everyBelow many (held table ends f)) → (i : ℕ) → i < many → Held table ends i (f (rowAt i))
+unfolding held rising right
+law table ends f t i h =
+    let inside = leb (getD ends (i + 1) 0) (length table) in
+    let found = same (between table ends i) (f (rowAt i)) in
+    let both = below many (held table ends f) t i h in
+    let rest = and-right (rising ends i) (right table ends f i) both in
+    record {
+      start = leb→le _ _ (and-left (rising ends i) (right table ends f i) both);
+      end = leb→le _ _ (and-left inside found rest);
+      is = same-is _ _ (sure _ (and-right inside found rest));
+    }
+
+pub word-held : (i : ℕ) → i < many → Held wordTable wordEnds i (rowAt i .word)
+unfolding held rising right
+word-held = law wordTable wordEnds (λ (r : Row). r .word) tt
+
+pub kinds-held : (i : ℕ) → i < many → Held kindTable kindEnds i (rowAt i .kinds)
+unfolding held rising right
+kinds-held = law kindTable kindEnds (λ (r : Row). r .kinds) tt
+
+pub order-held : (i : ℕ) → getD (map (λ (r : Row). r .order) rows) i Passed ≡ rowAt i .order
+order-held i = List·getD-map (λ (r : Row). r .order) rows i none
+
+-- what is asked of the parts is asked of the row
+pub row-asks : (line : List ℕ) (i : ℕ) → i < many → asks (between wordTable wordEnds i) (between kindTable kindEnds i) line ≡ asks (rowAt i .word) (rowAt i .kinds) line
+row-asks line i h = ap (λ (w : List ℕ). asks w (between kindTable kindEnds i) line) (word-held i h .is) ∙ ap (λ (k : List ℕ). asks (rowAt i .word) k line) (kinds-held i h .is)
+
+-- ---- the rows from i on
+
+pub asked : (line : List ℕ) (i : ℕ) → i < many → asks (rowAt i .word) (rowAt i .kinds) line ≡ true → orderIn (drop i rows) line ≡ rowAt i .order
+unfolding orderIn
+asked line i h e = ap (λ (rs : List Row). orderIn rs line) (from rows i none h) ∙ rw e
+
+pub not-asked : (line : List ℕ) (i : ℕ) → i < many → asks (rowAt i .word) (rowAt i .kinds) line ≡ false → orderIn (drop i rows) line ≡ orderIn (drop (i + 1) rows) line
+unfolding orderIn
+not-asked line i h e = ap (λ (rs : List Row). orderIn rs line) (from rows i none h) ∙ rw e
+
+pub none-asked : (line : List ℕ) (i : ℕ) → many ≤ i → orderIn (drop i rows) line ≡ Unread
+unfolding orderIn
+none-asked line i h = ap (λ (rs : List Row). orderIn rs line) (behind rows i h)

@@ -1,15 +1,16 @@
 -- docs/SCRIPTS.md, "Lines" and "Orders": which order a line is.
-use Prim.Native.Nat.{ℕ, zero, suc, _+_, _-_, _/_}
+use Prim.Native.Nat.{ℕ, zero, suc}
 use Prim.Native.String.{String}
 use mathlib.Core.Bool.{Bool, cond, _&&_, _||_}
 use mathlib.Core.List.{List, [], _∷_}
 use lib.Dec.{eqb, leb, ltb}
 use lib.ListN.{length, getD, drop}
 use Rattle.laws.specs.Bytes.{ascii, same}
-use Rattle.script_words.specs.Words.{words, wordAt, numberAt}
+use Rattle.script_words.specs.Words.{words, wordAt}
 use Rattle.script_lines.specs.declared.Order.{Order}
 use Rattle.script_lines.specs.declared.Order.the-variants.{Passed, Unread, Box, Rs232, Kjw, Tcp, Udp, Show, Advert, Write, Sum}
 use Rattle.script_words.specs.Kinds.{hex, family, any, area, shaped}
+use Rattle.script_boxes.specs.Boxes.{panelsIn}
 
 -- the order's word, and behind it a word of each kind
 unfoldable pub asks : List ℕ → List ℕ → List ℕ → Bool
@@ -21,22 +22,8 @@ unfoldable pub panelKinds : ℕ → List ℕ
 panelKinds zero = []
 panelKinds (suc n) = family ∷ 255 ∷ 255 ∷ panelKinds n
 
--- three words a panel
-unfoldable pub panelsIn : List ℕ → ℕ
-panelsIn line = (length (words line) - 1) / 3
-
 unfoldable pub asksBox : List ℕ → Bool
 asksBox line = leb (panelsIn line) 16 && asks (ascii "box") (panelKinds (panelsIn line)) line
-
--- the configuration of n panels from word k on: the family's letter, the group and the unit of each
-unfoldable pub configuration : ℕ → ℕ → List ℕ → List ℕ
-configuration zero k line = []
-configuration (suc n) k line =
-    getD (wordAt k line) 0 0 ∷ numberAt 255 (k + 1) line ∷ numberAt 255 (k + 2) line ∷ configuration n (k + 3) line
-
--- that of a line; none where more than sixteen panels are written
-unfoldable pub configurationOf : List ℕ → List ℕ
-configurationOf line = cond (leb (panelsIn line) 16) (configuration (panelsIn line) 1 line) []
 
 -- ---- the other orders
 

@@ -1,18 +1,14 @@
 // Which order a line of a script is, and the configuration that a `box` line writes (docs/SCRIPTS.md, "Orders").
 use octets::same_bytes;
 ghost use mathlib.Core.Path.{_≡_};
-ghost use Prim.Native.Nat.{_+_, _*_, _<_, _≤_};
-ghost use lib.ListN.{length, drop};
-ghost use Rattle.laws.specs.Bytes.{Sent};
-ghost use Rattle.script_lines.specs.Orders.{asks, panelKinds, panelsIn, asksBox, configuration, configurationOf, rows, orderIn, isPassedOver, orderOf};
+ghost use Prim.Native.Nat.{_*_};
+ghost use Rattle.script_lines.specs.Orders.{asks, panelKinds, asksBox, rows, orderIn, isPassedOver, orderOf};
+use script_boxes::panels_in;
 use script_words::ANY;
 use script_words::AREA;
 use script_words::HEX;
 use script_words::are_shaped;
 use script_words::length_before;
-use script_words::letter_at;
-use script_words::number_at;
-use script_words::spaces_in;
 
 // The orders of a script. A line that is passed over and one that is no order count among them.
 pub enum Order {
@@ -81,6 +77,66 @@ const PANELS: [u32; 48] = [
     255, // unit
 ];
 
+// The rows of the other orders: a row is a word, the kinds of the words behind it, and the order that it is. The words stand one
+// behind the other, and so do the kinds.
+const ORDERS: [Order; 8] = [
+    Order::Rs232,
+    Order::Kjw,
+    Order::Tcp,
+    Order::Udp,
+    Order::Show,
+    Order::Advert,
+    Order::Write,
+    Order::Sum,
+];
+
+const WORDS: [u8; 32] = *b"rs232\
+    kjw\
+    tcp\
+    udp\
+    show\
+    advert\
+    write\
+    sum";
+
+// Where each word ends, behind a 0 where the first begins.
+const WORD_ENDS: [usize; 9] = [0, 5, 8, 11, 14, 18, 24, 29, 32];
+
+const KINDS: [u32; 29] = [
+    ANY, // rs232: LINK
+    AREA,
+    HEX,
+    ANY, // kjw: LINK
+    AREA,
+    HEX,
+    ANY, // tcp: LINK
+    AREA,
+    HEX,
+    HEX, // udp
+    ANY, // show: LINK
+    HEX, // advert
+    AREA, // write
+    255, // CATEGORY
+    HEX, // PRODUCT
+    ANY, // SERIAL
+    65535, // POWER
+    HEX, // LOCATION
+    ANY, // IP
+    ANY, // IP1
+    ANY, // IP2
+    ANY, // IP3
+    ANY, // IP4
+    65535, // ERROR
+    HEX, // REGION
+    HEX, // NAME
+    255, // GROUP
+    255, // UNIT
+    HEX, // sum
+];
+
+// The same for the kinds.
+const KIND_ENDS: [usize; 9] = [0, 3, 6, 9, 10, 11, 12, 28, 29];
+
 // Whether a line is the order of that word, with a word of each kind behind it.
 fn is_asked(line: &[u8], word: &[u8], kinds: &[u32]) -> bool
     ensures { λ r. ⌜ r ≡ asks (now (word .entry)) (now (kinds .entry)) (now (line .entry)) ⌝ }
@@ -90,13 +146,6 @@ fn is_asked(line: &[u8], word: &[u8], kinds: &[u32]) -> bool
         return false;
     }
     are_shaped(line, kinds)
-}
-
-// How many panels a `box` line writes.
-fn panels_in(line: &[u8]) -> usize
-    ensures { λ r. ⌜ r ≡ panelsIn (now (line .entry)) ⌝ }
-{
-    spaces_in(line) / 3
 }
 
 // The kinds of sixteen panels' words.
@@ -118,94 +167,26 @@ fn is_box(line: &[u8]) -> bool
     is_asked(line, b"box", &kinds[..count])
 }
 
-// Lays the configuration of n panels over the front of an area.
-fn put_panels(line: &[u8], n: usize, area: &mut [u8]) -> usize
-    requires { ⌜ (n ≤ 16) × (n * 3 ≤ length (now area)) ⌝ }
-    ensures { λ r. ⌜ Sent (configuration n 1 (now (line .entry))) r (now (area .entry)) (now (area .exit)) ⌝ }
-{
-    let mut i = 0;
-    while i < n {
-        let k = i * 3;
-        area[k] = letter_at(line, k + 1);
-        area[k + 1] = number_at(line, k + 2, 255) as u8;
-        area[k + 2] = number_at(line, k + 3, 255) as u8;
-        i += 1;
-    }
-    n * 3
-}
-
-// Lays the configuration that a `box` line writes over the front of an area; none where more than sixteen panels are written.
-pub fn configuration_in(line: &[u8], area: &mut [u8; 48]) -> usize
-    ensures { λ r. ⌜ Sent (configurationOf (now (line .entry))) r (now (area .entry)) (now (area .exit)) ⌝ }
-{
-    let n = panels_in(line);
-    if 16 < n {
-        return 0;
-    }
-    put_panels(line, n, area)
-}
-
-// A message with a link and an area.
-fn linked_order(line: &[u8]) -> Order
+// The first row that the line is, and `unread` where it is none. The tables are named once, before the loop: each naming builds
+// one anew.
+fn order_in(line: &[u8]) -> Order
     ensures { λ r. ⌜ r ≡ orderIn rows (now (line .entry)) ⌝ }
 {
-    let kinds = [ANY, AREA, HEX];
-    if is_asked(line, b"rs232", &kinds) {
-        return Order::Rs232;
-    }
-    if is_asked(line, b"kjw", &kinds) {
-        return Order::Kjw;
-    }
-    if is_asked(line, b"tcp", &kinds) {
-        return Order::Tcp;
-    }
-    bare_order(line)
-}
-
-// An order of one word.
-fn bare_order(line: &[u8]) -> Order
-    ensures { λ r. ⌜ r ≡ orderIn (drop 3 rows) (now (line .entry)) ⌝ }
-{
-    let bytes = [HEX];
-    if is_asked(line, b"udp", &bytes) {
-        return Order::Udp;
-    }
-    if is_asked(line, b"show", &[ANY]) {
-        return Order::Show;
-    }
-    if is_asked(line, b"advert", &bytes) {
-        return Order::Advert;
-    }
-    last_order(line)
-}
-
-// The last two orders.
-fn last_order(line: &[u8]) -> Order
-    ensures { λ r. ⌜ r ≡ orderIn (drop 6 rows) (now (line .entry)) ⌝ }
-{
-    let fields = [
-        AREA,
-        255,
-        HEX,
-        ANY,
-        65535,
-        HEX,
-        ANY,
-        ANY,
-        ANY,
-        ANY,
-        ANY,
-        65535,
-        HEX,
-        HEX,
-        255,
-        255,
-    ];
-    if is_asked(line, b"write", &fields) {
-        return Order::Write;
-    }
-    if is_asked(line, b"sum", &[HEX]) {
-        return Order::Sum;
+    let words = WORDS;
+    let word_ends = WORD_ENDS;
+    let kinds = KINDS;
+    let kind_ends = KIND_ENDS;
+    let orders = ORDERS;
+    let mut i = 0;
+    while i < 8 {
+        let a = word_ends[i];
+        let b = word_ends[i + 1];
+        let c = kind_ends[i];
+        let d = kind_ends[i + 1];
+        if is_asked(line, &words[a..b], &kinds[c..d]) {
+            return orders[i];
+        }
+        i += 1;
     }
     Order::Unread
 }
@@ -232,5 +213,5 @@ pub fn order_of(line: &[u8]) -> Order
     if is_box(line) {
         return Order::Box;
     }
-    linked_order(line)
+    order_in(line)
 }

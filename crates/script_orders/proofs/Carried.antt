@@ -12,15 +12,16 @@ use Rattle.terms.specs.declared.Answer.{Answer}
 use Rattle.panels.specs.declared.DisplayBox.{DisplayBox}
 use Rattle.steps.specs.Messages.{Message, rs232c, kjw, tcp, udp, names}
 use Rattle.steps.specs.Step.{Outcome as Stepped, back, backOn, passed, refused, door, step}
-use Rattle.ways_in.specs.Promise.{Steps}
+use Rattle.ways_in.specs.Promise.{Steps, messageOf, outcomeOf, cameBy}
+use Rattle.ways_in.specs.declared.Way.the-variants.{By, Udp}
 use Rattle.ways_in.specs.declared.Outcome.{Outcome}
 use Rattle.sdap.specs.declared.Read.{Read}
 use Rattle.script_fields.specs.Fields.{advertText}
 use Rattle.script_lines.specs.Orders.{orderOf}
 use Rattle.script_lines.specs.declared.Order.{Order}
-use Rattle.script_orders.specs.Answers.{Answers, writes, replied, stepped, spread, answerText, messageOf, readText, ordered, answered}
+use Rattle.script_orders.specs.Answers.{Answers, writes, replied, stepped, spread, answerText, readText, ordered, answered}
 use Rattle.script_orders.specs.declared.Answered.{Answered}
-use Rattle.script_orders.specs.declared.Way.{Way}
+use Rattle.addresses.specs.declared.Line.{Line}
 
 -- a reply is no longer than the area that holds it
 on-fits : (area reply : List ℕ) → backOn area reply .len ≤ length (backOn area reply .area)
@@ -55,19 +56,26 @@ carried-text {b} {m} {t} {area′} s =
     ∙ ap (λ (x : ℕ). writes (step b m .box) (replied (step b m .answer) x area′)) (s .length-is)
     ∙ ap (λ (x : List ℕ). writes (step b m .box) (replied (step b m .answer) (step b m .back .len) x)) (s .area-is)
 
+-- what `take` promises of a message with a link
+pub linked-steps : (b : DisplayBox) (line : Line) (l : ℕ) (m area : List ℕ) (t : Outcome) (area′ : List ℕ) → (t ≡ outcomeOf (cameBy (By line) b l m area)) × (area′ ≡ cameBy (By line) b l m area .area) → Steps b (messageOf line l m area) t area′
+linked-steps b line l m area t area′ s = record {
+  after-is = ap (λ (x : Outcome). x .after) (s .0);
+  answer-is = ap (λ (x : Outcome). x .answer) (s .0);
+  length-is = ap (λ (x : Outcome). x .len) (s .0);
+  area-is = s .1;
+}
+
 -- and by UDP only the answer is written
-pub spread-text : {b : DisplayBox} {m : Message} {t : Outcome} {area′ : List ℕ} → Steps b m t area′ → writes (t .after) (answerText (t .answer)) ≡ spread (step b m)
+pub spread-text : (b : DisplayBox) (l : ℕ) (m area : List ℕ) (t : Outcome) → t ≡ outcomeOf (cameBy Udp b l m area) → writes (t .after) (answerText (t .answer)) ≡ spread (step b (udp m))
 unfolding spread
-spread-text {b} {m} {t} s =
-    ap (λ (x : DisplayBox). writes x (answerText (t .answer))) (s .after-is)
-    ∙ ap (λ (x : Answer). writes (step b m .box) (answerText x)) (s .answer-is)
+spread-text b l m area t s = ap (λ (x : Outcome). writes (x .after) (answerText (x .answer))) s
 
 -- equal parts make equal messages
-pub carried-same : (b : DisplayBox) (way : Way) {l l′ : ℕ} {m m′ a a′ : List ℕ} → l ≡ l′ → m ≡ m′ → a ≡ a′ → stepped (step b (messageOf way l m a)) ≡ stepped (step b (messageOf way l′ m′ a′))
-carried-same b way {l} {l′} {m} {m′} {a} {a′} e f g =
-    ap (λ (x : ℕ). stepped (step b (messageOf way x m a))) e
-    ∙ ap (λ (x : List ℕ). stepped (step b (messageOf way l′ x a))) f
-    ∙ ap (λ (x : List ℕ). stepped (step b (messageOf way l′ m′ x))) g
+pub carried-same : (b : DisplayBox) (by : Line) {l l′ : ℕ} {m m′ a a′ : List ℕ} → l ≡ l′ → m ≡ m′ → a ≡ a′ → stepped (step b (messageOf by l m a)) ≡ stepped (step b (messageOf by l′ m′ a′))
+carried-same b by {l} {l′} {m} {m′} {a} {a′} e f g =
+    ap (λ (x : ℕ). stepped (step b (messageOf by x m a))) e
+    ∙ ap (λ (x : List ℕ). stepped (step b (messageOf by l′ x a))) f
+    ∙ ap (λ (x : List ℕ). stepped (step b (messageOf by l′ m′ x))) g
 
 -- what the order of a line does is what the line does
 pub by-order : (b : DisplayBox) (line : List ℕ) {o : Order} {area area′ : List ℕ} {r : Answered} → orderOf line ≡ o → Answers (ordered o b line) r area area′ → Answers (answered b line) r area area′

@@ -8,12 +8,12 @@ use Rattle.steps.specs.Messages.{udp}
 use Rattle.steps.specs.Step.{step}
 use Rattle.sdap.specs.Rules.{readOf}
 use Rattle.script_words.specs.Words.{numberAt, bytesAt}
-use Rattle.script_lines.specs.Orders.{configurationOf}
+use Rattle.script_boxes.specs.Boxes.{configurationOf}
 use Rattle.script_lines.specs.declared.Order.the-variants.{Write}
 use Rattle.script_text.proofs.Puts.{puts-one}
 use Rattle.script_orders.specs.Answers.{Effect, Answers, writes, boxed, messaged, spread, shownAt, readText, summed, ordered}
 use Rattle.script_orders.specs.declared.Answered.{Answered}
-use Rattle.script_orders.specs.declared.Way.{Way}
+use Rattle.addresses.specs.declared.Line.{Line}
 
 -- two outcomes agree: box, length of the text, and every filler byte
 pub record Agree (r r′ : Answered) (x x′ : List ℕ) : Type 0 where
@@ -51,5 +51,5 @@ module _ (b : DisplayBox) (line area : List ℕ) (r r′ : Answered) (x x′ : L
   pub answer-sum-one : Answers (writes b (summed (bytesAt 1 line))) r area x → Answers (writes b (summed (bytesAt 1 line))) r′ area x′ → Agree r r′ x x′
   answer-sum-one = answers-one (writes b (summed (bytesAt 1 line))) area r r′ x x′
 
-  pub answer-message-one : (way : Way) → Answers (messaged way b line) r area x → Answers (messaged way b line) r′ area x′ → Agree r r′ x x′
-  answer-message-one way = answers-one (messaged way b line) area r r′ x x′
+  pub answer-message-one : (by : Line) → Answers (messaged by b line) r area x → Answers (messaged by b line) r′ area x′ → Agree r r′ x x′
+  answer-message-one by = answers-one (messaged by b line) area r r′ x x′

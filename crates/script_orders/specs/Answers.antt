@@ -12,7 +12,7 @@ use Rattle.sums.specs.Sums.{sumsToZero}
 use Rattle.configure.specs.Configure.{configured}
 use Rattle.configure.specs.declared.Configured.{Configured}
 use Rattle.panels.specs.declared.DisplayBox.{DisplayBox}
-use Rattle.steps.specs.Messages.{Message, rs232c, kjw, tcp, udp}
+use Rattle.steps.specs.Messages.{udp}
 use Rattle.steps.specs.Step.{panelAt, step}
 use Rattle.steps.specs.Step as steps
 use Rattle.sdap.specs.Rules.{readOf, writeAnswer, left}
@@ -20,7 +20,8 @@ use Rattle.sdap.specs.declared.Advert.{Advert as Fields}
 use Rattle.sdap.specs.declared.Read.{Read}
 use Rattle.script_words.specs.Words.{numberAt, bytesAt}
 use Rattle.script_words.specs.Kinds.{any, area}
-use Rattle.script_lines.specs.Orders.{configurationOf, orderOf}
+use Rattle.script_boxes.specs.Boxes.{configurationOf}
+use Rattle.script_lines.specs.Orders.{orderOf}
 use Rattle.script_lines.specs.declared.Order.{Order}
 use Rattle.script_lines.specs.declared.Order.the-variants.{Passed, Unread, Box, Rs232, Kjw, Tcp, Udp, Show, Advert, Write, Sum}
 use Rattle.script_text.specs.Puts.{Puts}
@@ -29,8 +30,9 @@ use Rattle.script_show.specs.Shown.{panelText}
 use Rattle.script_fields.specs.Fields.{advertText}
 use Rattle.script_write.specs.Wanted.{wanted}
 use Rattle.script_orders.specs.declared.Answered.{Answered}
-use Rattle.script_orders.specs.declared.Way.{Way}
-use Rattle.script_orders.specs.declared.Way.the-variants.{Serial, Frame, Packet}
+use Rattle.addresses.specs.declared.Line.{Line}
+use Rattle.addresses.specs.declared.Line.the-variants as lines
+use Rattle.ways_in.specs.Promise.{messageOf}
 
 -- the box after a line, and the text that the line writes
 pub record Effect : Type 0 where
@@ -60,14 +62,8 @@ replied a len area = replyText (numberOf a) (take len area) (drop len area)
 unfoldable pub stepped : steps.Outcome → Effect
 stepped o = writes (o .box) (replied (o .answer) (o .back .len) (o .back .area))
 
--- the three ways in that have a link
-abbrev pub messageOf : Way → ℕ → List ℕ → List ℕ → Message
-messageOf Serial l m a = rs232c l m a
-messageOf Frame l m a = kjw l m a
-messageOf Packet l m a = tcp l m a
-
-unfoldable pub messaged : Way → DisplayBox → List ℕ → Effect
-messaged way b line = stepped (step b (messageOf way (numberAt any 1 line) (bytesAt 3 line) (filler (numberAt area 2 line))))
+unfoldable pub messaged : Line → DisplayBox → List ℕ → Effect
+messaged by b line = stepped (step b (messageOf by (numberAt any 1 line) (bytesAt 3 line) (filler (numberAt area 2 line))))
 
 -- "by SDCP on UDP"
 unfoldable pub spread : steps.Outcome → Effect
@@ -101,9 +97,9 @@ unfoldable pub ordered : Order → DisplayBox → List ℕ → Effect
 ordered Passed b line = record { box = b; text = [] }
 ordered Unread b line = writes b (ascii "unread")
 ordered Box b line = boxed (configured (configurationOf line))
-ordered Rs232 b line = messaged Serial b line
-ordered Kjw b line = messaged Frame b line
-ordered Tcp b line = messaged Packet b line
+ordered Rs232 b line = messaged lines.Rs232c b line
+ordered Kjw b line = messaged lines.Kjw b line
+ordered Tcp b line = messaged lines.Tcp b line
 ordered Udp b line = spread (step b (udp (bytesAt 1 line)))
 ordered Show b line = writes b (shownAt b (numberAt any 1 line))
 ordered Advert b line = writes b (readText (readOf (bytesAt 1 line)))

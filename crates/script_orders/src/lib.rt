@@ -1,12 +1,16 @@
 // What each order of a script does to the box, and what it writes (docs/SCRIPTS.md).
+use addresses::Line;
 use configure::configure;
 use panels::DisplayBox;
+use script_boxes::configuration_in;
 use script_fields::put_advert;
-use script_lines::configuration_in;
 use script_show::put_panel;
+use script_text::FILLER;
 use script_text::put;
 use script_text::put_number_text;
 use script_text::put_reply;
+use script_words::ANY;
+use script_words::AREA;
 use script_words::bytes_at;
 use script_words::number_at;
 use script_write::write_fields;
@@ -14,11 +18,8 @@ use sdap_read::read_advert;
 use sums::sums_to_zero;
 use terms::Answer;
 use terms::answer_number;
-use ways_in::Outcome;
-use ways_in::take_kjw;
-use ways_in::take_rs232c;
-use ways_in::take_tcp;
-use ways_in::take_udp;
+use ways_in::Way;
+use ways_in::take;
 ghost use mathlib.Core.Path.{_≡_};
 ghost use Prim.Native.Nat.{_≤_};
 ghost use lib.ListN.{length};
@@ -26,31 +27,20 @@ ghost use Rattle.terms.specs.Answers.{numberOf};
 ghost use Rattle.configure.specs.Configure.{configured};
 ghost use Rattle.steps.specs.Messages as messages;
 ghost use Rattle.steps.specs.Step.{step};
-ghost use Rattle.ways_in.specs.Promise.{Steps};
+ghost use Rattle.ways_in.specs.Promise.{messageOf};
 ghost use Rattle.sdap.specs.Rules.{readOf};
 ghost use Rattle.script_words.specs.Words.{numberAt, bytesAt};
-ghost use Rattle.script_lines.specs.Orders.{configurationOf};
+ghost use Rattle.script_boxes.specs.Boxes.{configurationOf};
 ghost use Rattle.script_lines.specs.declared.Order.the-variants.{Write};
 ghost use Rattle.script_text.specs.Texts.{numberText};
 ghost use Rattle.script_write.specs.Wanted.{wanted};
-ghost use Rattle.script_orders.specs.Answers.{Answers, Ends, writes, replied, boxed, messageOf, stepped, messaged, spread, isThere, shownAt, readText, filled, wrote, summed, ordered};
+ghost use Rattle.script_orders.specs.Answers.{Answers, Ends, writes, replied, boxed, stepped, messaged, spread, isThere, shownAt, readText, filled, wrote, summed, ordered};
 
 // What a line did: the box after it, and the length of its text.
 pub struct Answered {
     pub after: DisplayBox,
     pub len: usize,
 }
-
-// The ways in that have a link and a reply area.
-pub enum Way {
-    Serial,
-    Frame,
-    Packet,
-}
-
-const ANY: u32 = 4294967295;
-
-const AREA: u32 = 1024;
 
 // The text ends here: a line of its own.
 fn ended(b: DisplayBox, out: &mut [u8], at: usize) -> Answered
@@ -96,44 +86,33 @@ pub fn answer_box(line: &[u8], out: &mut [u8]) -> Answered
     say_answer(made, out, b"box ", answer)
 }
 
-// A message by its way in.
-fn take_message(way: Way, b: DisplayBox, link: usize, m: &[u8], area: &mut [u8]) -> Outcome
-    ensures { λ r. ⌜ Steps b (messageOf way link (now (m .entry)) (now (area .entry))) r (now (area .exit)) ⌝ }
-{
-    match way {
-        Way::Serial => take_rs232c(b, link, m, area),
-        Way::Frame => take_kjw(b, link, m, area),
-        Way::Packet => take_tcp(b, link, m, area),
-    }
-}
-
 // The message with its area, and what went back.
 fn carry(
-    way: Way,
+    line: Line,
     b: DisplayBox,
     link: usize,
     m: &[u8],
     area: &mut [u8],
     out: &mut [u8],
 ) -> Answered
-    ensures { λ r. ⌜ Answers (stepped (step b (messageOf way link (now (m .entry)) (now (area .entry))))) r (now (out .entry)) (now (out .exit)) ⌝ }
+    ensures { λ r. ⌜ Answers (stepped (step b (messageOf line link (now (m .entry)) (now (area .entry))))) r (now (out .entry)) (now (out .exit)) ⌝ }
 {
-    let t = take_message(way, b, link, m, area);
+    let t = take(b, Way::By(line), link, m, area);
     let len = t.len;
     let answer = t.answer;
     let after = t.after;
     say_reply(after, answer, len, area, out)
 }
 
-pub fn answer_message(way: Way, b: DisplayBox, line: &[u8], out: &mut [u8]) -> Answered
-    ensures { λ r. ⌜ Answers (messaged way b (now (line .entry))) r (now (out .entry)) (now (out .exit)) ⌝ }
+pub fn answer_message(by: Line, b: DisplayBox, line: &[u8], out: &mut [u8]) -> Answered
+    ensures { λ r. ⌜ Answers (messaged by b (now (line .entry))) r (now (out .entry)) (now (out .exit)) ⌝ }
 {
     let mut bytes = [0u8; 1024];
     let n = bytes_at(line, 3, &mut bytes);
-    let mut area = [165u8; 1024];
+    let mut area = [FILLER; 1024];
     let room = number_at(line, 2, AREA) as usize;
     let link = number_at(line, 1, ANY) as usize;
-    carry(way, b, link, &bytes[..n], &mut area[..room], out)
+    carry(by, b, link, &bytes[..n], &mut area[..room], out)
 }
 
 pub fn answer_udp(b: DisplayBox, line: &[u8], out: &mut [u8]) -> Answered
@@ -141,7 +120,8 @@ pub fn answer_udp(b: DisplayBox, line: &[u8], out: &mut [u8]) -> Answered
 {
     let mut bytes = [0u8; 1024];
     let n = bytes_at(line, 1, &mut bytes);
-    let t = take_udp(b, &bytes[..n]);
+    let mut unused = [0u8; 1];
+    let t = take(b, Way::Udp, 0, &bytes[..n], &mut unused);
     let after = t.after;
     let answer = t.answer;
     say_answer(after, out, b"answer ", answer)
@@ -209,7 +189,7 @@ fn write_in(b: DisplayBox, line: &[u8], area: &mut [u8], out: &mut [u8]) -> Answ
 pub fn answer_write(b: DisplayBox, line: &[u8], out: &mut [u8]) -> Answered
     ensures { λ r. ⌜ Answers (ordered Write b (now (line .entry))) r (now (out .entry)) (now (out .exit)) ⌝ }
 {
-    let mut area = [165u8; 1024];
+    let mut area = [FILLER; 1024];
     let room = number_at(line, 1, AREA) as usize;
     write_in(b, line, &mut area[..room], out)
 }

@@ -1,4 +1,4 @@
--- No line writes more than 4,096 bytes: a number has at most ten digits, a name with its value twenty bytes, a reply 48.
+-- No line writes more than there is room for: a number has at most ten digits, a name with its value twenty bytes, a reply 48.
 use Prim.Native.Nat.{ℕ, zero, suc, _+_, _*_, _-_, _^_, _≤_}
 use mathlib.Core.Path.{_≡_, refl, ap}
 use mathlib.Core.Bool.{Bool, cond}
@@ -28,8 +28,8 @@ use Rattle.panels.specs.declared.WRecord.{WRecord}
 use Rattle.panels.specs.declared.KRecord.{KRecord}
 use Rattle.panels.specs.declared.Panel.{Panel}
 use Rattle.panels.specs.declared.DisplayBox.{DisplayBox}
-use Rattle.setting_words.specs.Names.{leadOf, wordOf}
-use Rattle.setting_words.proofs.Choices.{short-lead, short-word}
+use Rattle.setting_texts.specs.Names.{leadOf, wordOf}
+use Rattle.setting_texts.proofs.Sizes.{short-lead, short-word}
 use Rattle.vmc.specs.Orders.{saysOf}
 use Rattle.vmc_tells.specs.Texts.{sizeOf, signOf, valueWords, shiftWords, setWords, moveWords, textOf}
 use Rattle.vmc_asks.specs.declared.Order.the-variants.{Get}
@@ -37,16 +37,17 @@ use Rattle.vmc_tells.specs.declared.Says.{Says}
 use Rattle.vmc_tells.specs.declared.Says.the-variants.{Bare, Value, Offset}
 use Rattle.vmc_tells.proofs.Phrases.{numeral-short}
 use Rattle.rs232c.specs.Replies as serial
-use Rattle.rs232c.specs.declared.Reply.{Reply as SerialReply}
-use Rattle.rs232c.specs.declared.Reply.the-variants.{Silent, Ack, Nak, State, Balances}
-use Rattle.kjw.specs.Rules as frames
+use Rattle.rs232c_tells.specs.Texts as serialTexts
+use Rattle.rs232c_tells.specs.declared.Reply.{Reply as SerialReply}
+use Rattle.rs232c_tells.specs.declared.Reply.the-variants.{Silent, Ack, Nak, State, Balances}
+use Rattle.kjw.specs.Replies as frames
 use Rattle.kjw.proofs.Notices.{reply-length}
 use Rattle.sdcp_asks.specs.Asks.{heardOf}
 use Rattle.sdcp.specs.Replies as packets
 use Rattle.sdcp_asks.specs.declared.Heard.{Heard as PacketHeard}
 use Rattle.sdcp_asks.specs.declared.Heard.the-variants as packetIs
 use Rattle.sdcp.specs.declared.Reply.{Reply as PacketReply}
-use Rattle.rs232c_asks.specs.Asks as serialForms
+use Rattle.rs232c_asks.specs.Asks as serialAsks
 use Rattle.rs232c_asks.specs.declared.Heard.{Heard as SerialHeard}
 use Rattle.rs232c_asks.specs.declared.Heard.the-variants as serialIs
 use Rattle.sdcp.specs.declared.Reply.the-variants.{Silent as None, Ng, Ok}
@@ -59,16 +60,21 @@ use Rattle.sdap.specs.declared.Advert.{Advert as Fields}
 use Rattle.sdap.specs.declared.Read.{Read}
 use Rattle.script_words.specs.Words.{numberAt, bytesAt}
 use Rattle.script_words.specs.Kinds.{any, area}
-use Rattle.script_lines.specs.Orders.{configurationOf, orderOf}
+use Rattle.script_boxes.specs.Boxes.{configurationOf}
+use Rattle.script_lines.specs.Orders.{orderOf}
 use Rattle.script_lines.specs.declared.Order.{Order}
 use Rattle.script_lines.specs.declared.Order.the-variants.{Passed, Unread, Box, Rs232, Kjw, Tcp, Udp, Show, Advert, Write, Sum}
 use Rattle.script_text.specs.Texts.{pairs, hexText, numberText, bytesText, signedText, spoiledBy, replyText}
-use Rattle.script_show.specs.Shown.{shownNames, settingsText, onText, inputsText, gainsText, biasText, biasesText, balanceText, wText, sceneText, inputText, mutesText, kText, panelText}
+use Rattle.script_show.specs.Shown.{shownNames, settingsText, wText, panelText}
+use Rattle.script_parts.specs.Parts.{onText, inputsText, sceneText, inputText, mutesText, kText}
+use Rattle.script_balance.specs.Balance.{gainsText, biasText, biasesText, balanceText}
 use Rattle.script_fields.specs.Fields.{headText, addressesText, tailText, advertText}
 use Rattle.script_write.specs.Wanted.{wanted}
-use Rattle.script_orders.specs.Answers.{writes, filler, answerText, boxed, replied, stepped, messageOf, messaged, spread, isThere, shownAt, readText, filled, wrote, summed, ordered, answered}
-use Rattle.script_orders.specs.declared.Way.{Way}
-use Rattle.script_orders.specs.declared.Way.the-variants.{Serial, Frame, Packet}
+use Rattle.script_orders.specs.Answers.{writes, filler, answerText, boxed, replied, stepped, messaged, spread, isThere, shownAt, readText, filled, wrote, summed, ordered, answered}
+use Rattle.addresses.specs.declared.Line.{Line}
+use Rattle.addresses.specs.declared.Line.the-variants as lines
+use Rattle.ways_in.specs.Promise.{messageOf}
+use Rattle.script_room.specs.Room.{room}
 
 -- ---- numbers and bytes
 
@@ -316,8 +322,8 @@ wrote-fits a area =
 
 -- ---- a reply
 
-serial-fits : (r : SerialReply) → length (serial.bytesOf r) ≤ 48
-unfolding serial.bytesOf serial.frameOf
+serial-fits : (r : SerialReply) → length (serialTexts.bytesOf r) ≤ 48
+unfolding serialTexts.bytesOf serialTexts.frameOf
 serial-fits Silent = omega arith
 serial-fits (Ack to) = omega arith
 serial-fits (Nak to) = omega arith
@@ -329,7 +335,7 @@ unfolding serial.turned
 serial-turn-fits (serialIs.Refused a) vs w = omega arith
 serial-turn-fits (serialIs.Broken s) vs w = serial-fits (Nak s)
 serial-turn-fits (serialIs.NotUnderstood s) vs w = serial-fits (Nak s)
-serial-turn-fits (serialIs.Understood s o) vs w = serial-fits (serial.replyTo s o w)
+serial-turn-fits (serialIs.Understood s o) vs w = serial-fits (serialTexts.replyTo s o w)
 
 frame-fits : (m : List ℕ) (k : KRecord) → length (frames.turnOf m k .reply) ≤ 48
 frame-fits m k =
@@ -357,12 +363,12 @@ packet-turn-fits m packetIs.Broken w = packet-fits m Ng
 packet-turn-fits m packetIs.NotUnderstood w = packet-fits m (Ok Bare)
 packet-turn-fits m (packetIs.Understood o) w = packet-fits m (Ok (saysOf o w))
 
-behind : {R : Type 0} (room : ℕ) (f : R → Turn R) (x : R) → length (f x .reply) ≤ 48 → length (taken room f x .reply) ≤ 48
-behind {R} room f x = either-turn (λ (t : Turn R). length (t .reply) ≤ 48) room f x (omega arith)
+behind : {R : Type 0} (n : ℕ) (f : R → Turn R) (x : R) → length (f x .reply) ≤ 48 → length (taken n f x .reply) ≤ 48
+behind {R} n f x = either-turn (λ (t : Turn R). length (t .reply) ≤ 48) n f x (omega arith)
 
 turn-fits : (m : Message) (p : Panel) → length (turn m p .reply) ≤ 48
 unfolding turn
-turn-fits (rs232c l m area) p = behind (length area) (serial.turnOf m) (p .w) (serial-turn-fits (serialForms.heardOf m) (serialForms.valuesOf m) (p .w))
+turn-fits (rs232c l m area) p = behind (length area) (serial.turnOf m) (p .w) (serial-turn-fits (serialAsks.heardOf m) (serialAsks.valuesOf m) (p .w))
 turn-fits (kjw l m area) p = behind (length area) (frames.turnOf m) (p .k) (frame-fits m (p .k))
 turn-fits (tcp l m area) p = behind (length area) (packets.turnOf m) (p .w) (packet-turn-fits m (heardOf m) (p .w))
 turn-fits (udp m) p = packet-turn-fits m (heardOf m) (p .w)
@@ -383,29 +389,29 @@ step-replies b m =
 
 -- ---- a line
 
-writes-fit : (b : DisplayBox) (text : List ℕ) → length text ≤ 1500 → length (writes b text .text) ≤ 4096
+writes-fit : (b : DisplayBox) (text : List ℕ) → length text ≤ 1500 → length (writes b text .text) ≤ room
 unfolding writes
 writes-fit b text h = let l = length-append text (0x0a ∷ []) in omega (arith, l, h)
 
-answer-fits : (b : DisplayBox) (word : List ℕ) (v : ℕ) → length word ≤ 100 → length (writes b (numberText word v) .text) ≤ 4096
+answer-fits : (b : DisplayBox) (word : List ℕ) (v : ℕ) → length word ≤ 100 → length (writes b (numberText word v) .text) ≤ room
 answer-fits b word v h = let s = said-fits word v in writes-fit b (numberText word v) (omega (arith, s, h))
 
-message-fits : (way : Way) (b : DisplayBox) (line : List ℕ) → length (messaged way b line .text) ≤ 4096
+message-fits : (by : Line) (b : DisplayBox) (line : List ℕ) → length (messaged by b line .text) ≤ room
 unfolding messaged stepped
-message-fits way b line =
-    let o = step b (messageOf way (numberAt any 1 line) (bytesAt 3 line) (filler (numberAt area 2 line))) in
-    let n = step-replies b (messageOf way (numberAt any 1 line) (bytesAt 3 line) (filler (numberAt area 2 line))) in
+message-fits by b line =
+    let o = step b (messageOf by (numberAt any 1 line) (bytesAt 3 line) (filler (numberAt area 2 line))) in
+    let n = step-replies b (messageOf by (numberAt any 1 line) (bytesAt 3 line) (filler (numberAt area 2 line))) in
     let r = replied-fits (o .answer) (o .back .len) (o .back .area) (omega (arith, n)) in
     writes-fit (o .box) (replied (o .answer) (o .back .len) (o .back .area)) (omega (arith, r))
 
-order-fits : (o : Order) (b : DisplayBox) (line : List ℕ) → length (ordered o b line .text) ≤ 4096
+order-fits : (o : Order) (b : DisplayBox) (line : List ℕ) → length (ordered o b line .text) ≤ room
 unfolding ordered boxed spread summed
 order-fits Passed b line = omega arith
 order-fits Unread b line = writes-fit b (ascii "unread") (omega arith)
 order-fits Box b line = let c = configured (configurationOf line) in answer-fits (c .made) (ascii "box ") (numberOf (c .answer)) (omega arith)
-order-fits Rs232 b line = message-fits Serial b line
-order-fits Kjw b line = message-fits Frame b line
-order-fits Tcp b line = message-fits Packet b line
+order-fits Rs232 b line = message-fits lines.Rs232c b line
+order-fits Kjw b line = message-fits lines.Kjw b line
+order-fits Tcp b line = message-fits lines.Tcp b line
 order-fits Udp b line = let o = step b (udp (bytesAt 1 line)) in answer-fits (o .box) (ascii "answer ") (numberOf (o .answer)) (omega arith)
 order-fits Show b line = let s = shown-fits b (numberAt any 1 line) in writes-fit b (shownAt b (numberAt any 1 line)) (omega (arith, s))
 order-fits Advert b line = writes-fit b (readText (readOf (bytesAt 1 line))) (read-fits (readOf (bytesAt 1 line)) (read-short (bytesAt 1 line)))
@@ -417,6 +423,6 @@ order-fits Sum b line =
     writes-fit b (summed (bytesAt 1 line)) s
 
 -- so the program's area of 4,096 bytes cuts nothing off
-pub text-fits : (b : DisplayBox) (line : List ℕ) → length (answered b line .text) ≤ 4096
+pub text-fits : (b : DisplayBox) (line : List ℕ) → length (answered b line .text) ≤ room
 unfolding answered
 text-fits b line = order-fits (orderOf line) b line

@@ -3,6 +3,7 @@ use mathlib.Core.Path.{_≡_}
 use mathlib.Core.List.{List}
 use Prim.Native.Nat.{ℕ}
 use lib.IntN.{ℤ}
+use Rattle.decimals.specs.Plain.{plain}
 use Rattle.script_text.specs.Puts.{Puts}
 use Rattle.script_text.specs.Texts.{numberText, bytesText, signedText, replyText}
 use Rattle.script_text.proofs.Puts.{puts-one}
@@ -21,3 +22,6 @@ put-reply-one answer reply rest = put-one (replyText answer reply rest)
 
 pub put-signed-one : (z : ℤ) (d : List ℕ) (n : ℕ) (e e′ : List ℕ) (r r′ : ℕ) → Puts (signedText z) d n e r → Puts (signedText z) d n e′ r′ → (e ≡ e′) × (r ≡ r′)
 put-signed-one z = put-one (signedText z)
+
+pub put-number-one : (v : ℕ) (d : List ℕ) (n : ℕ) (e e′ : List ℕ) (r r′ : ℕ) → Puts (plain v) d n e r → Puts (plain v) d n e′ r′ → (e ≡ e′) × (r ≡ r′)
+put-number-one v = put-one (plain v)

@@ -1,5 +1,5 @@
 -- Texts put one behind the other are one text: what was cut off ends at the area's end, and behind it nothing is put.
-use mathlib.Core.Path.{_≡_, refl, sym, ap, _∙_}
+use mathlib.Core.Path.{_≡_, refl, sym, ap, subst, _∙_}
 use mathlib.Core.Bool.{Bool, true, false}
 use mathlib.Core.List.{List, [], _∷_, _++_, append-nil, append-assoc}
 use Prim.Native.Nat.{ℕ, suc, _+_, _-_, _<_, _≤_}
@@ -24,6 +24,10 @@ puts-outside t d n h =
 -- one promise, one outcome
 pub puts-one : {t d e e′ : List ℕ} {n r r′ : ℕ} → Puts t d n e r → Puts t d n e′ r′ → (e ≡ e′) × (r ≡ r′)
 puts-one p q = (p .area-is ∙ sym (q .area-is), p .next-is ∙ sym (q .next-is))
+
+-- the same text, said otherwise
+pub puts-as : {s t d e : List ℕ} {n r : ℕ} → s ≡ t → Puts s d n e r → Puts t d n e r
+puts-as {s} {t} {d} {e} {n} {r} q p = subst (λ (x : List ℕ). Puts x d n e r) q p
 
 -- where there is room the whole text is put
 pub puts-whole : {t d e : List ℕ} {n r : ℕ} → Puts t d n e r → n + length t ≤ length d → (e ≡ over d n t) × (r ≡ n + length t)

@@ -1,13 +1,15 @@
 // What a script's orders write: text put into an area from a place on, cut off where the area ends (docs/SCRIPTS.md).
 use decimals::digit_at;
 use decimals::width_of;
+use octets::all_are;
 ghost use mathlib.Core.Path.{_≡_};
 ghost use Prim.Native.Nat.{_<_};
-ghost use lib.Dec.{eqb};
-ghost use Rattle.laws.specs.Lists.{every};
 ghost use Rattle.decimals.specs.Plain.{plain};
 ghost use Rattle.script_text.specs.Puts.{Puts};
 ghost use Rattle.script_text.specs.Texts.{glyph, pairs, hexText, numberText, bytesText, signedText, spoiledBy, replyText};
+
+// "a reply area of AREA bytes, each A5h"
+pub const FILLER: u8 = 165;
 
 // Puts a text from a place on, and answers the place behind it.
 pub fn put(out: &mut [u8], at: usize, text: &[u8]) -> usize
@@ -27,7 +29,7 @@ pub fn put(out: &mut [u8], at: usize, text: &[u8]) -> usize
 }
 
 // A number, the highest digit first.
-fn put_number(out: &mut [u8], at: usize, v: u32) -> usize
+pub fn put_number(out: &mut [u8], at: usize, v: u32) -> usize
     ensures { λ r. ⌜ Puts (plain v) (now (out .entry)) at (now (out .exit)) r ⌝ }
 {
     let mut to = at;
@@ -90,24 +92,11 @@ pub fn put_bytes_text(out: &mut [u8], at: usize, word: &[u8], bytes: &[u8]) -> u
     put_hex(out, to, bytes)
 }
 
-// Whether every byte is still A5h.
-fn is_untouched(rest: &[u8]) -> bool
-    ensures { λ r. ⌜ r ≡ every (eqb 165) (now (rest .entry)) ⌝ }
-{
-    let mut i = 0;
-    while i < rest.len() {
-        if rest[i] != 165 {
-            return false;
-        }
-        i += 1;
-    }
-    true
-}
-
+// The word ` spoiled`, where a byte behind the reply is no longer A5h.
 fn put_spoiled(out: &mut [u8], at: usize, rest: &[u8]) -> usize
     ensures { λ r. ⌜ Puts (spoiledBy (now (rest .entry))) (now (out .entry)) at (now (out .exit)) r ⌝ }
 {
-    if is_untouched(rest) {
+    if all_are(rest, FILLER) {
         return at;
     }
     put(out, at, b" spoiled")

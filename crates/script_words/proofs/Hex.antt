@@ -1,8 +1,8 @@
--- Hex digits: a test of two bounds that says yes gives both, and byte i is written by digits 2i and 2i + 1.
+-- HEX words: byte i is written by digits 2i and 2i + 1, and no word writes more than 1,024 bytes.
 use Prim.Native.Nat.{_%_, _*_, _+_, _/_, _<_, _≤_, suc, zero, ℕ}
 use mathlib.Core.Bool.{Bool, _&&_, _||_, false, true}
 use mathlib.Core.List.{List, [], _∷_}
-use mathlib.Core.Path.{_∙_, _≡_, ap, refl, sym}
+use mathlib.Core.Path.{_≡_, ap, refl}
 use native.Mathlib.Omega.{arith}
 use lib.Dec.{eqb, leb}
 use lib.ListN.{getD, length}
@@ -11,12 +11,8 @@ use Rattle.laws.proofs.Conditions.{and-first, and-second}
 use Rattle.laws.proofs.Lists.{same-is}
 use Rattle.laws.specs.Bytes.{ascii, same}
 use Rattle.laws.specs.Lists.{every}
-use Rattle.script_words.specs.Words.{bytesAt, bytesIn, hexValue, isHex, isHexDigit, wordAt}
-
-pub between : {low b high : ℕ} {r : Bool} → r ≡ (leb low b && leb b high) → r ≡ true → (low ≤ b) × (b ≤ high)
-between {low} {b} {high} e t =
-    let h = sym e ∙ t in
-    (leb-true low b (and-first (leb low b) (leb b high) h), leb-true b high (and-second (leb low b) (leb b high) h))
+use Rattle.script_words.specs.Words.{bytesAt, bytesIn, wordAt}
+use Rattle.script_hex.specs.Hex.{hexValue, isHex, isHexDigit}
 
 pub pairs-length : (w : List ℕ) → length (bytesIn w) ≡ length w / 2
 unfolding bytesIn

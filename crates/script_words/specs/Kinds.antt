@@ -7,7 +7,7 @@ use Rattle.laws.specs.Bytes.{ascii, same}
 use Rattle.decimals.specs.Decimals.{upTo}
 use Rattle.decimals.specs.declared.Number.{Number}
 use Rattle.decimals.specs.declared.Number.the-variants.{Is, Not}
-use Rattle.script_words.specs.Words.{isHex}
+use Rattle.script_hex.specs.Hex.{isHex}
 
 -- ---- kinds of words, as numbers: 0 is HEX, 1 a family's letter, any other the most that an N may be
 

@@ -1,14 +1,13 @@
 -- docs/SCRIPTS.md, "Lines": the words of a line, and what a word says.
-use Prim.Native.Nat.{ℕ, _+_, _-_, _*_, _%_}
-use mathlib.Core.Bool.{Bool, cond, _&&_, _||_}
+use Prim.Native.Nat.{ℕ, _+_, _*_}
+use mathlib.Core.Bool.{cond}
 use mathlib.Core.List.{List, [], _∷_}
-use lib.Dec.{eqb, leb}
-use lib.ListN.{length, getD}
-use Rattle.laws.specs.Bytes.{ascii, same}
-use Rattle.laws.specs.Lists.{every}
-use Rattle.decimals.specs.Decimals.{isDigit, upTo}
+use lib.Dec.{eqb}
+use lib.ListN.{getD}
+use Rattle.decimals.specs.Decimals.{upTo}
 use Rattle.decimals.specs.declared.Number.{Number}
 use Rattle.decimals.specs.declared.Number.the-variants.{Is, Not}
+use Rattle.script_hex.specs.Hex.{hexValue, isHex}
 
 -- what stands before the first c
 unfoldable pub before : ℕ → List ℕ → List ℕ
@@ -38,23 +37,6 @@ valueOf Not = 0
 
 unfoldable pub numberAt : ℕ → ℕ → List ℕ → ℕ
 numberAt most k line = valueOf (upTo most (wordAt k line))
-
--- "hex digits, either case"
-unfoldable pub isHexDigit : ℕ → Bool
-isHexDigit b = isDigit b || leb 0x41 b && leb b 0x46 || leb 0x61 b && leb b 0x66
-
-unfoldable pub hexValue : ℕ → ℕ
-hexValue b =
-    cond (isDigit b) (b - 0x30)
-    (cond (leb 0x41 b && leb b 0x46) (b - 0x37)
-    (cond (leb 0x61 b && leb b 0x66) (b - 0x57)
-    0))
-
--- "HEX is an even number of hex digits, either case, or a lone `-` for no bytes; at most 1,024 bytes."
-unfoldable pub isHex : List ℕ → Bool
-isHex w =
-    same w (ascii "-")
-    || leb 1 (length w) && leb (length w) 2048 && eqb (length w % 2) 0 && every isHexDigit w
 
 -- the bytes that pairs of hex digits write
 unfoldable pub bytesIn : List ℕ → List ℕ

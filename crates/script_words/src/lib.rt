@@ -4,15 +4,14 @@ use decimals::plain_number;
 use octets::byte_at;
 use octets::same_bytes;
 ghost use mathlib.Core.Path.{_≡_};
-ghost use Prim.Native.Nat.{suc, _+_, _*_, _<_, _≤_};
-ghost use mathlib.Core.Bool.{_&&_};
-ghost use lib.Dec.{leb};
+ghost use Prim.Native.Nat.{suc, _+_, _*_, _≤_};
 ghost use lib.ListN.{length, getD, drop};
 ghost use Rattle.laws.specs.Bytes.{Sent};
-ghost use Rattle.laws.specs.Lists.{every};
 ghost use Rattle.decimals.specs.Decimals.{upTo};
-ghost use Rattle.script_words.specs.Words.{before, words, wordAt, valueOf, numberAt, isHexDigit, hexValue, isHex, bytesIn, bytesAt};
+ghost use Rattle.script_words.specs.Words.{before, words, wordAt, valueOf, numberAt, bytesIn, bytesAt};
 ghost use Rattle.script_words.specs.Kinds.{isNumber, isFamily, isKind, shaped};
+use script_hex::hex_value;
+use script_hex::is_hex;
 
 // The kinds of words: HEX, a family's letter, and the most that a number may be.
 pub const HEX: u32 = 0;
@@ -88,74 +87,6 @@ pub fn letter_at(line: &[u8], k: usize) -> u8
     let a = start_of(line, k);
     let e = end_of(line, a);
     byte_at(&line[a..e], 0)
-}
-
-// Whether a byte lies between two others.
-fn is_between(low: u8, b: u8, high: u8) -> bool
-    ensures { λ r. ⌜ r ≡ (leb low b && leb b high) ⌝ }
-{
-    if b < low {
-        return false;
-    }
-    b <= high
-}
-
-fn is_hex_digit(b: u8) -> bool
-    ensures { λ r. ⌜ r ≡ isHexDigit b ⌝ }
-{
-    if is_between(b'0', b, b'9') {
-        return true;
-    }
-    if is_between(b'A', b, b'F') {
-        return true;
-    }
-    is_between(b'a', b, b'f')
-}
-
-fn hex_value(b: u8) -> u8
-    ensures { λ r. ⌜ (r ≡ hexValue b) × (r < 16) ⌝ }
-{
-    if is_between(b'0', b, b'9') {
-        return b - b'0';
-    }
-    if is_between(b'A', b, b'F') {
-        return b - b'A' + 10;
-    }
-    if is_between(b'a', b, b'f') {
-        return b - b'a' + 10;
-    }
-    0
-}
-
-fn are_hex_digits(w: &[u8]) -> bool
-    ensures { λ r. ⌜ r ≡ every isHexDigit (now (w .entry)) ⌝ }
-{
-    let mut i = 0;
-    while i < w.len() {
-        if !is_hex_digit(w[i]) {
-            return false;
-        }
-        i += 1;
-    }
-    true
-}
-
-fn is_hex(w: &[u8]) -> bool
-    ensures { λ r. ⌜ r ≡ isHex (now (w .entry)) ⌝ }
-{
-    if same_bytes(w, b"-") {
-        return true;
-    }
-    if w.len() < 1 {
-        return false;
-    }
-    if 2048 < w.len() {
-        return false;
-    }
-    if w.len() % 2 != 0 {
-        return false;
-    }
-    are_hex_digits(w)
 }
 
 // Lays the bytes that pairs of hex digits write over the front of an area.

@@ -1,4 +1,5 @@
 // The advert writer on the words of a `write` line (docs/SCRIPTS.md).
+use script_words::ANY;
 use script_words::bytes_at;
 use script_words::number_at;
 use sdap_write::write_advert;
@@ -9,8 +10,6 @@ ghost use mathlib.Core.Path.{_≡_};
 ghost use Rattle.script_words.specs.Words.{numberAt};
 ghost use Rattle.sdap.specs.Rules.{Written};
 ghost use Rattle.script_write.specs.Wanted.{wanted};
-
-const ANY: u32 = 4294967295;
 
 // A word's number as a byte.
 fn byte_in(line: &[u8], k: usize) -> u8

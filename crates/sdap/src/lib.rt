@@ -1,10 +1,9 @@
-// The SDAP advert of 122 bytes: its fields, and the rules that reader and writer share (document 01, "SDAP advert, 122 bytes").
+// The SDAP advert of 122 bytes: its fields, the rules that reader and writer share, and the writer's answer (document 01, "SDAP advert, 122 bytes").
 use terms::Answer;
 use terms::GroupId;
 use terms::UnitId;
 ghost use mathlib.Core.Path.{_≡_};
-ghost use Prim.Native.Nat.{_+_};
-ghost use Rattle.sdap.specs.Rules.{isText, areTexts, isCategory, isFilled, verdict, textLength};
+ghost use Rattle.sdap.specs.Rules.{isText, areTexts, isCategory, isFilled, verdict, textLength, isSized, writeVerdict};
 
 // The fields of an advert, in the order of its bytes.
 pub struct Advert {
@@ -125,4 +124,42 @@ pub fn text_length(t: &[u8]) -> usize
         i += 1;
     }
     i
+}
+
+// The text areas have their 12 or 24 bytes.
+fn is_sized(product: &[u8], location: &[u8], region: &[u8], name: &[u8]) -> bool
+    ensures { λ r. ⌜ r ≡ isSized (now (product .entry)) (now (location .entry)) (now (region .entry)) (now (name .entry)) ⌝ }
+{
+    if product.len() != 12 {
+        return false;
+    }
+    if location.len() != 24 {
+        return false;
+    }
+    if region.len() != 24 {
+        return false;
+    }
+    name.len() == 24
+}
+
+// The advert writer's answer, for an area of so many bytes.
+pub fn write_answer(
+    room: usize,
+    category: u8,
+    power: u16,
+    error: u16,
+    product: &[u8],
+    location: &[u8],
+    region: &[u8],
+    name: &[u8],
+) -> Answer
+    ensures { λ r. ⌜ r ≡ writeVerdict room category power error (now (product .entry)) (now (location .entry)) (now (region .entry)) (now (name .entry)) ⌝ }
+{
+    if room < 122 {
+        return Answer::AreaTooSmall;
+    }
+    if !is_sized(product, location, region, name) {
+        return Answer::WrongLength;
+    }
+    judge(category, power, error, product, location, region, name)
 }

@@ -3,6 +3,9 @@ use octets::lay;
 use octets::number2;
 use octets::number4;
 use octets::same_bytes;
+use sdap::Advert;
+use sdap::Read;
+use sdap::judge;
 use terms::Answer;
 use terms::GroupId;
 use terms::UnitId;
@@ -14,9 +17,6 @@ ghost use Rattle.laws.specs.Bytes.{part};
 ghost use Rattle.laws.specs.Numbers.{number};
 ghost use Rattle.sdap.specs.Layout.{fieldsOf, noFields};
 ghost use Rattle.sdap.specs.Rules.{isFront, readAnswer, readOf};
-use sdap::Advert;
-use sdap::Read;
-use sdap::judge;
 
 // A text's bytes, by value.
 fn text12(t: &[u8]) -> [u8; 12]

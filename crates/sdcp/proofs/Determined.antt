@@ -1,5 +1,5 @@
 -- Each promise at the door allows one outcome: its equations have the same right sides, and that of a turn is `Takes`.
-use mathlib.Core.Path.{_≡_, sym, _∙_}
+use mathlib.Core.Path.{_≡_}
 use mathlib.Core.List.{List}
 use Prim.Native.Nat.{ℕ}
 use Rattle.turns.specs.Turns.{Takes}

@@ -9,7 +9,7 @@ use vmc_asks::read_data;
 ghost use mathlib.Core.Path.{_≡_};
 ghost use Prim.Native.Nat.{_≤_};
 ghost use lib.ListN.{length};
-ghost use Rattle.sdcp_asks.specs.Asks.{isOurs, isBroken, inWords, heardOf, dataOf};
+ghost use Rattle.sdcp_asks.specs.Asks.{isOurs, isBroken, heardOf};
 
 // What a packet asks, whoever is addressed.
 pub enum Heard {

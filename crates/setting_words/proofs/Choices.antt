@@ -1,38 +1,15 @@
 -- What is found is a name or a word: of 23 names, and of at most three words.
-use Prim.Native.Nat.{ℕ, _<_, _≤_}
-use mathlib.Core.Path.{_≡_, refl, ap}
-use mathlib.Core.Bool.{Bool, true, false}
-use mathlib.Core.List.{List, [], map}
+use Prim.Native.Nat.{ℕ, _<_}
+use mathlib.Core.List.{List}
 use native.Mathlib.Omega.{arith}
-use lib.Dec.{ltb, leb, leb→le}
-use lib.ListN.{length, getD, List·getD-eq-default}
-use borrow.Author.Tests.{ltb-true, ltb-false}
+use lib.ListN.{length}
 use Rattle.laws.specs.Bytes.{same, begins}
-use Rattle.laws.specs.Lists.{everyBelow}
-use Rattle.laws.proofs.Table.{below}
-use Rattle.settings.specs.Table.{Setting, table}
-use Rattle.setting_words.specs.Names.{leads, leadOf, wordsOf, wordOf, ledBy, chosenBy}
+use Rattle.setting_texts.specs.Names.{leadOf, wordsOf, wordOf}
+use Rattle.setting_words.specs.Names.{ledBy, chosenBy}
 use Rattle.setting_words.specs.declared.Found.{Found}
 use Rattle.setting_words.specs.declared.Found.the-variants.{At, Nothing}
 use Rattle.setting_words.proofs.Search.{Right, first-right}
-
-fewWords : ℕ → Bool
-fewWords k = leb (length (wordsOf k)) 3
-
--- behind the table there are no words
-pub none : (k v : ℕ) → 21 ≤ k → wordOf k v ≡ []
-none k v h = ap (λ (ws : List (List ℕ)). getD ws v []) (List·getD-eq-default (map (λ (s : Setting). s .words) table) [] h)
-
-pub no-words : (k : ℕ) → 21 ≤ k → length (wordsOf k) ≡ 0
-no-words k h = ap length (List·getD-eq-default (map (λ (s : Setting). s .words) table) [] h)
-
-pub few-words : (k : ℕ) → length (wordsOf k) ≤ 3
-unfolding fewWords
-few-words k = go (ltb k 21) refl
-  where
-    go : (b : Bool) → ltb k 21 ≡ b → length (wordsOf k) ≤ 3
-    go true e = leb→le _ _ (below 21 fewWords tt k (ltb-true k 21 e))
-    go false e = let z = no-words k (ltb-false k 21 e) in omega (arith, z)
+use Rattle.setting_texts.proofs.Sizes.{few-words}
 
 abbrev pub Small : Found → Type 0
 Small (At v) = v < 3
@@ -50,30 +27,3 @@ chosen-small k s = go (chosenBy k s) (first-right (length (wordsOf k)) (λ (v : 
 pub led-right : (s : List ℕ) → Right (λ (k : ℕ). begins (leadOf k) s) 23 (ledBy s)
 unfolding ledBy
 led-right s = first-right 23 (λ (k : ℕ). begins (leadOf k) s)
-
--- a name with what parts it from its value has at most 13 bytes, and a word at most 7
-shortLead : ℕ → Bool
-shortLead k = leb (length (leadOf k)) 13
-
-pub short-lead : (k : ℕ) → length (leadOf k) ≤ 13
-unfolding shortLead
-short-lead k = go (ltb k 23) refl
-  where
-    go : (b : Bool) → ltb k 23 ≡ b → length (leadOf k) ≤ 13
-    go true e = leb→le _ _ (below 23 shortLead tt k (ltb-true k 23 e))
-    go false e = let z = ap length (List·getD-eq-default leads [] (ltb-false k 23 e)) in omega (arith, z)
-
-shortWord : ℕ → ℕ → Bool
-shortWord k v = leb (length (wordOf k v)) 7
-
-shortWords : ℕ → Bool
-shortWords k = everyBelow 3 (shortWord k)
-
-pub short-word : (k v : ℕ) → length (wordOf k v) ≤ 7
-unfolding shortWord shortWords
-short-word k v = go (ltb k 21) refl (ltb v 3) refl
-  where
-    go : (b : Bool) → ltb k 21 ≡ b → (c : Bool) → ltb v 3 ≡ c → length (wordOf k v) ≤ 7
-    go true e true f = leb→le _ _ (below 3 (shortWord k) (below 21 shortWords tt k (ltb-true k 21 e)) v (ltb-true v 3 f))
-    go true e false f = let w = few-words k in let l = ltb-false v 3 f in let z = ap length (List·getD-eq-default (wordsOf k) [] (let h : length (wordsOf k) ≤ v = omega arith in h)) in omega (arith, z)
-    go false e c f = let z = ap length (none k v (ltb-false k 21 e)) in omega (arith, z)

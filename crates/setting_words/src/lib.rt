@@ -1,13 +1,17 @@
-// The words of the settings: which setting a name is, which of its values a word is, and the texts themselves (document 01,
-// "SDCP and VMC").
+// The words of the settings: which setting a name is, and which of its values a word is (document 01, "SDCP and VMC").
 use octets::byte_at;
-use octets::lay;
+use setting_texts::COUNT;
+use setting_texts::FIRST;
+use setting_texts::LENGTHS;
+use setting_texts::TEXTS;
+use settings::NAME_COUNT;
 ghost use mathlib.Core.Path.{_≡_};
-ghost use Prim.Native.Nat.{ℕ, _+_, _*_, _<_, _≤_};
+ghost use Prim.Native.Nat.{ℕ, _+_, _<_, _≤_};
 ghost use lib.ListN.{length, take, getD};
-ghost use Rattle.laws.specs.Bytes.{begins, laid};
-ghost use Rattle.setting_words.specs.Names.{leadOf, wordsOf, wordOf, firstOf, namedBy, ledBy, chosenBy};
-ghost use Rattle.setting_words.specs.Rows.{textOf, bareOf, rows, initials, meets};
+ghost use Rattle.laws.specs.Bytes.{begins};
+ghost use Rattle.setting_words.specs.Names.{firstOf, namedBy, ledBy, chosenBy};
+ghost use Rattle.setting_texts.specs.Rows.{textOf, rows};
+ghost use Rattle.setting_words.specs.Rows.{initials, meets};
 
 // A place in a table, or none.
 pub enum Found {
@@ -15,78 +19,8 @@ pub enum Found {
     Nothing,
 }
 
-// Each name with what parts it from its value, then the values' words, in rows of 13 places.
-const TEXTS: [u8; 416] = *b"PHASE _______\
-    CHROMA ______\
-    VOLUME ______\
-    MODE_________\
-    NTSC_________\
-    RGB RANGE ___\
-    REMOTE ______\
-    POWERSAVING _\
-    KEYINHIBIT __\
-    TALLYGREEN __\
-    TALLYRED ____\
-    HVDELAY _____\
-    BLUEONLY ____\
-    MONOCHR _____\
-    CAMERA FOCUS \
-    LED _________\
-    SCREENSAVER _\
-    SILENTMODE __\
-    FLIPH _______\
-    FLIPV _______\
-    FLIPHV ______\
-    SHIFTH ______\
-    SHIFTV ______\
-    OFF__________\
-    ON___________\
-    FULL_________\
-    LIMITED______\
-    0____________\
-    75___________\
-    0____________\
-    1____________\
-    2____________";
-
 // Each text's first byte: most rows are told apart by it.
 const INITIALS: [u8; 32] = *b"PCVMNRRPKTTHBMCLSSFFFSSOOFL07012";
-
-// Each text's length.
-const LENGTHS: [usize; 32] = [
-    6, // PHASE
-    7, // CHROMA
-    7, // VOLUME
-    4, // MODE
-    4, // NTSC
-    10, // RGB RANGE
-    7, // REMOTE
-    12, // POWERSAVING
-    11, // KEYINHIBIT
-    11, // TALLYGREEN
-    9, // TALLYRED
-    8, // HVDELAY
-    9, // BLUEONLY
-    8, // MONOCHR
-    13, // CAMERA FOCUS
-    4, // LED
-    12, // SCREENSAVER
-    11, // SILENTMODE
-    6, // FLIPH
-    6, // FLIPV
-    7, // FLIPHV
-    7, // SHIFTH
-    7, // SHIFTV
-    3, // OFF
-    2, // ON
-    4, // FULL
-    7, // LIMITED
-    1, // 0
-    2, // 75
-    1, // 0
-    1, // 1
-    1, // 2
-];
 
 // Each text's length without what parts a name from its value.
 const BARE: [usize; 32] = [
@@ -122,60 +56,6 @@ const BARE: [usize; 32] = [
     1, // 0
     1, // 1
     1, // 2
-];
-
-// The row of each setting's first word.
-const FIRST: [usize; 23] = [
-    23, // PHASE has none
-    23, // CHROMA has none
-    23, // VOLUME has none
-    29, // MODE
-    27, // NTSC
-    25, // RGB RANGE
-    23, // REMOTE
-    23, // POWERSAVING
-    23, // KEYINHIBIT
-    23, // TALLYGREEN
-    23, // TALLYRED
-    23, // HVDELAY
-    23, // BLUEONLY
-    23, // MONOCHR
-    23, // CAMERA FOCUS
-    23, // LED
-    23, // SCREENSAVER
-    23, // SILENTMODE
-    23, // FLIPH
-    23, // FLIPV
-    23, // FLIPHV
-    23, // SHIFTH has none
-    23, // SHIFTV has none
-];
-
-// How many words each setting's values have.
-const COUNT: [usize; 23] = [
-    0, // PHASE
-    0, // CHROMA
-    0, // VOLUME
-    3, // MODE
-    2, // NTSC
-    2, // RGB RANGE
-    2, // REMOTE
-    2, // POWERSAVING
-    2, // KEYINHIBIT
-    2, // TALLYGREEN
-    2, // TALLYRED
-    2, // HVDELAY
-    2, // BLUEONLY
-    2, // MONOCHR
-    2, // CAMERA FOCUS
-    2, // LED
-    2, // SCREENSAVER
-    2, // SILENTMODE
-    2, // FLIPH
-    2, // FLIPV
-    2, // FLIPHV
-    0, // SHIFTH
-    0, // SHIFTV
 ];
 
 // The first n bytes of a row's text begin s.
@@ -252,79 +132,22 @@ fn find(s: &[u8], first: usize, n: usize, bare: bool) -> Found
 pub fn named(s: &[u8]) -> Found
     ensures { λ r. ⌜ r ≡ namedBy (now (s .entry)) ⌝ }
 {
-    find(s, 0, 23, true)
+    find(s, 0, NAME_COUNT, true)
 }
 
 // Whose name, with what parts it from its value, begins s.
 pub fn led(s: &[u8]) -> Found
     ensures { λ r. ⌜ r ≡ ledBy (now (s .entry)) ⌝ }
 {
-    find(s, 0, 23, false)
+    find(s, 0, NAME_COUNT, false)
 }
 
 // Which of setting k's values has the word s.
 pub fn chosen(k: usize, s: &[u8]) -> Found
     ensures { λ r. ⌜ r ≡ chosenBy k (now (s .entry)) ⌝ }
 {
-    if 23 <= k {
+    if NAME_COUNT <= k {
         return Found::Nothing;
     }
     find(s, FIRST[k], COUNT[k], true)
-}
-
-// The length of a name with what parts it from its value; 0 where there is no such name.
-pub fn lead_length(k: usize) -> usize
-    ensures { λ r. ⌜ r ≡ length (leadOf k) ⌝ }
-{
-    if 23 <= k {
-        return 0;
-    }
-    LENGTHS[k]
-}
-
-// A row's text, laid over an area from a place on.
-fn put_row(out: &mut [u8], at: usize, row: usize)
-    requires { ⌜ row < 32 ⌝ }
-    ensures { λ _. ⌜ now (out .exit) ≡ laid (now (out .entry)) at (textOf row) ⌝ }
-{
-    let texts = TEXTS;
-    let from = row * 13;
-    let to = from + LENGTHS[row];
-    lay(out, at, &texts[from..to]);
-}
-
-// A name with what parts it from its value, laid over an area from a place on.
-pub fn put_lead(out: &mut [u8], at: usize, k: usize)
-    ensures { λ _. ⌜ now (out .exit) ≡ laid (now (out .entry)) at (leadOf k) ⌝ }
-{
-    if 23 <= k {
-        return;
-    }
-    put_row(out, at, k);
-}
-
-// The word of setting k's value v, laid over an area from a place on.
-pub fn put_word(out: &mut [u8], at: usize, k: usize, v: usize)
-    ensures { λ _. ⌜ now (out .exit) ≡ laid (now (out .entry)) at (wordOf k v) ⌝ }
-{
-    if 23 <= k {
-        return;
-    }
-    if COUNT[k] <= v {
-        return;
-    }
-    put_row(out, at, FIRST[k] + v);
-}
-
-// The length of that word; 0 where there is none.
-pub fn word_length(k: usize, v: usize) -> usize
-    ensures { λ r. ⌜ r ≡ length (wordOf k v) ⌝ }
-{
-    if 23 <= k {
-        return 0;
-    }
-    if COUNT[k] <= v {
-        return 0;
-    }
-    LENGTHS[FIRST[k] + v]
 }

@@ -3,6 +3,7 @@ use Prim.Native.Nat.{ℕ, _-_}
 use Prim.Native.String.{String}
 use mathlib.Core.List.{List, [], _∷_, map}
 use lib.ListN.{length}
+use lib.IntN.{ℤ, negsuc}
 use Rattle.laws.specs.Bytes.{ascii}
 
 -- a setting: its name, what parts the name from its value, the words of its values 0, 1 and so on (a level has none: its
@@ -18,8 +19,18 @@ abbrev pub space : List ℕ
 space = 0x20 ∷ []
 
 -- "PHASE, CHROMA or VOLUME with 0 to 100"
+abbrev pub mostLevel : ℕ
+mostLevel = 100
+
+-- "SHIFTH or SHIFTV with -30 to +30"
+abbrev pub leastShift : ℤ
+leastShift = negsuc 29
+
+abbrev pub mostShift : ℕ
+mostShift = 30
+
 abbrev pub level : String → ℕ → Setting
-level name start = record { name = ascii name; between = space; words = []; most = 100; start = start }
+level name start = record { name = ascii name; between = space; words = []; most = mostLevel; start = start }
 
 abbrev pub choice : String → List ℕ → List (List ℕ) → ℕ → Setting
 choice name between words start = record { name = ascii name; between = between; words = words; most = length words - 1; start = start }
@@ -53,6 +64,20 @@ table =
     switch "FLIPH" 0 ∷
     switch "FLIPV" 0 ∷
     switch "FLIPHV" 0 ∷ []
+
+-- the places of the names: the levels stand first, then the choices, each a setting of the table; behind them SHIFTH and SHIFTV
+abbrev pub levelCount : ℕ
+levelCount = 3
+
+abbrev pub settingCount : ℕ
+settingCount = 21
+
+abbrev pub nameCount : ℕ
+nameCount = 23
+
+-- where REMOTE stands in it
+abbrev pub remote : ℕ
+remote = 6
 
 -- the columns of numbers
 abbrev pub mosts : List ℕ

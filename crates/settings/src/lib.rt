@@ -2,11 +2,27 @@
 ghost use mathlib.Core.Path.{_≡_};
 ghost use Rattle.settings.specs.Table.{mosts, starts};
 
+// The greatest level.
+pub const MOST_LEVEL: u8 = 100;
+
+// The greatest size of a shift.
+pub const MOST_SHIFT: u64 = 30;
+
+// The places of the names: the levels stand first, then the choices, each a setting of the table; behind them SHIFTH and SHIFTV.
+pub const LEVEL_COUNT: usize = 3;
+
+pub const SETTING_COUNT: usize = 21;
+
+pub const NAME_COUNT: usize = 23;
+
+// REMOTE's place in the table.
+pub const REMOTE: usize = 6;
+
 // Each setting's greatest value, in the order of the table.
 const MOST: [u8; 21] = [
-    100, // PHASE
-    100, // CHROMA
-    100, // VOLUME
+    MOST_LEVEL, // PHASE
+    MOST_LEVEL, // CHROMA
+    MOST_LEVEL, // VOLUME
     2, // MODE
     1, // NTSC
     1, // RGB RANGE

@@ -1,34 +1,28 @@
 -- Demand 3: a place's record and its replies are decided by the messages that are addressed to it. A step at one place is that
 -- place's turn, so the general law of runs applies.
 use mathlib.Core.Path.{_≡_, refl, sym, ap, _∙_}
-use mathlib.Core.Bool.{Bool, true, false, cond, _&&_, and-true, and-false}
-use mathlib.Core.List.{List, [], _∷_, map}
+use mathlib.Core.Bool.{Bool, true, false, cond, _&&_, and-true}
+use mathlib.Core.List.{List, [], _∷_}
 use Prim.Native.Nat.{ℕ, _%_, _<_}
-use native.Mathlib.Omega.{arith}
 use lib.Dec.{eqb}
 use lib.ListN.{length}
 use Rattle.laws.proofs.Conditions.{choose}
 use Rattle.laws.proofs.Lists.{places-length}
 use Rattle.laws.proofs.Runs.{Alone, isolated}
-use Rattle.terms.specs.Answers.{numberOf}
 use Rattle.terms.specs.declared.Answer.{Answer}
 use Rattle.terms.specs.declared.Answer.the-variants.{Done}
-use Rattle.turns.specs.Turns.{Turn}
 use Rattle.configure.specs.Configure.{askedAt, asked, refusal, configured}
-use Rattle.panels.specs.Valid.{inUse, valid}
+use Rattle.panels.specs.Valid.{valid}
 use Rattle.panels.specs.declared.Panel.{Panel}
 use Rattle.panels.specs.declared.DisplayBox.{DisplayBox}
 use Rattle.configure.specs.declared.Configured.{Configured}
-use Rattle.panels.proofs.Boxes as boxes
-use Rattle.configure.proofs.Boxes as boxesConfigured
-use Rattle.configure.proofs.Boxes as boxesConfigured
-use Rattle.steps.specs.Messages.{Message, rs232c, kjw, tcp, udp, Name, nameOf, names}
+use Rattle.steps.specs.Messages.{Message, Name, names}
 use Rattle.steps.specs.Addressing.{addressed}
-use Rattle.steps.specs.Step.{turn, Back, back, panelAt, ownTurn, answerTo, Outcome, passed, refused, door, step}
-use Rattle.steps.specs.Run.{Got, gotBy, after, run, kept, replies}
-use Rattle.steps.proofs.Door.{opens, at-step}
-use Rattle.steps.proofs.Validity.{places-kept, valid-names, names-kept}
-use Rattle.steps.proofs.Refusals.{own-turn, own-answer}
+use Rattle.steps.specs.Step.{turn, Back, back, panelAt, ownTurn, Outcome, passed, refused, door, step}
+use Rattle.steps.specs.Run.{Got, gotBy, after, run, next, kept, replies}
+use Rattle.steps.proofs.Door.{opens}
+use Rattle.steps.proofs.Turns.{at-step, left, own-answer, own-back}
+use Rattle.steps.proofs.Validity.{places-kept, names-kept}
 
 -- what a panel that is addressed becomes, and what goes back for it: its turn, if the door is passed
 abbrev becomes : List Name → Message → Panel → Panel
@@ -36,13 +30,6 @@ becomes ns m p = cond (opens ns m) (turn m p .after) p
 
 abbrev says : List Name → Message → Panel → Got
 says ns m p = cond (opens ns m) (record { answer = turn m p .answer; back = back m (turn m p .reply) }) (record { answer = door ns m; back = back m [] })
-
-own-back : (ns : List Name) (b : DisplayBox) (m : Message) (i : ℕ) → addressed ns m i ≡ true → back m (ownTurn ns b m .reply) ≡ back m (turn m (panelAt i b) .reply)
-unfolding addressed
-own-back ns b (rs232c l m area) i e = ap (λ (t : Turn Panel). back (rs232c l m area) (t .reply)) (own-turn ns b (rs232c l m area) i e)
-own-back ns b (kjw l m area) i e = ap (λ (t : Turn Panel). back (kjw l m area) (t .reply)) (own-turn ns b (kjw l m area) i e)
-own-back ns b (tcp l m area) i e = ap (λ (t : Turn Panel). back (tcp l m area) (t .reply)) (own-turn ns b (tcp l m area) i e)
-own-back ns b (udp m) i e = refl
 
 got-step : (b : DisplayBox) (m : Message) (i : ℕ) → addressed (names b) m i ≡ true → gotBy b m ≡ says (names b) m (panelAt i b)
 unfolding step
@@ -57,19 +44,16 @@ got-step b m i e = go (opens (names b) m)
         ∙ ap (λ (x : Back). record { answer = turn m (panelAt i b) .answer; back = x }) (own-back (names b) b m i e)
     go false = refl
 
-left-step : (b : DisplayBox) (m : Message) (i : ℕ) → i < length (b .panels) → addressed (names b) m i ≡ false → panelAt i (step b m .box) ≡ panelAt i b
-left-step b m i h e = at-step b m i h ∙ rw (e, and-false (opens (names b) m))
+turn-step : (b : DisplayBox) (m : Message) (i : ℕ) → addressed (names b) m i ≡ true → panelAt i (step b m .box) ≡ becomes (names b) m (panelAt i b)
+turn-step b m i e = at-step b m i ∙ rw (e, and-true (opens (names b) m))
 
-turn-step : (b : DisplayBox) (m : Message) (i : ℕ) → i < length (b .panels) → addressed (names b) m i ≡ true → panelAt i (step b m .box) ≡ becomes (names b) m (panelAt i b)
-turn-step b m i h e = at-step b m i h ∙ rw (e, and-true (opens (names b) m))
-
-alone : (i : ℕ) → Alone (λ (b : DisplayBox). i < length (b .panels)) names (panelAt i) after gotBy (λ (ns : List Name) (m : Message). ns) (λ (ns : List Name) (m : Message). addressed ns m i) becomes says
+alone : (i : ℕ) → Alone (λ (b : DisplayBox). i < length (b .panels)) names (panelAt i) after gotBy next (λ (ns : List Name) (m : Message). addressed ns m i) becomes says
 alone i = record {
   stays-sound = λ b m h. rw (places-kept b m) h;
   names-after = λ b m h. names-kept b m;
   names-kept = λ ns m e. refl;
-  left = λ b m h e. left-step b m i h e;
-  turns = λ b m h e. turn-step b m i h e;
+  left = λ b m h e. left b m i e;
+  turns = λ b m h e. turn-step b m i e;
   says-so = λ b m h e. got-step b m i e;
 }
 
@@ -101,11 +85,3 @@ eight-places c = choose (λ (r : Configured). length (r .made .panels) ≡ 8) (e
 -- the same of every box that a configuration gives, and of each of its panels, W or K
 pub demand-3-configured : (c : List ℕ) (i : ℕ) (ms ms′ : List Message) → i < 8 → kept i (names (configured c .made)) ms ≡ kept i (names (configured c .made)) ms′ → (panelAt i (run (configured c .made) ms) ≡ panelAt i (run (configured c .made) ms′)) × (replies i (configured c .made) ms ≡ replies i (configured c .made) ms′)
 demand-3-configured c i ms ms′ h k = demand-3 (configured c .made) i ms ms′ (rw (eight-places c) h) k
-
-accepted-valid : (r : Configured) → boxesConfigured.Configures r → r .answer ≡ Done → valid (r .made) ≡ true
-accepted-valid _ (boxesConfigured.made b v) e = v
-accepted-valid _ boxesConfigured.refused e = absurd (let z : 7 ≡ 0 = ap numberOf e in omega arith)
-
--- where the configuration is accepted, messages are kept by the families and IDs of its panels
-pub configured-names : (c : List ℕ) → configured c .answer ≡ Done → names (configured c .made) ≡ map nameOf (inUse (configured c .made))
-configured-names c e = valid-names (configured c .made) (accepted-valid (configured c) (boxesConfigured.outcome c) e)

@@ -36,7 +36,8 @@ use Rattle.steps.specs.Addressing.{addressed}
 use Rattle.steps.specs.Step.{turn, backOn, panelAt, step}
 use Rattle.steps.specs.Run.{run}
 use Rattle.steps.proofs.Stays.{sets, spared, told-lasts}
-use Rattle.steps.proofs.Turns.{Reaches, door-passed, done-reaches, takes}
+use Rattle.steps.proofs.Door.{by-tcp as on-link}
+use Rattle.steps.proofs.Turns.{Reaches, has-room, done-reaches, takes, told}
 
 -- ---- SDCP
 
@@ -54,10 +55,10 @@ told-order room p o w h e = rw (le-ltb room 512 h, e)
 pub obeyed : {b : DisplayBox} {m : Message} {i : ℕ} (p : List ℕ) (o : Order) → Brings p m → heardOf p ≡ Understood o → Reaches b m i → panelAt i (step b m .box) .w ≡ carried o (panelAt i b .w)
 unfolding turn packets.turned
 obeyed {b} {m} {i} p o (by-tcp l area) e r =
-    ap (λ (x : Panel). x .w) (takes r .panel-is)
-    ∙ ap (λ (t : Turn WRecord). t .after) (told-order (length area) p o (panelAt i b .w) (door-passed (names b) (tcp l p area) (r .passes) .room) e)
+    ap (λ (x : Panel). x .w) (takes r)
+    ∙ ap (λ (t : Turn WRecord). t .after) (told-order (length area) p o (panelAt i b .w) (has-room (on-link p) r) e)
 obeyed {b} {m} {i} p o by-udp e r =
-    ap (λ (x : Panel). x .w) (takes r .panel-is)
+    ap (λ (x : Panel). x .w) (takes r)
     ∙ ap (λ (h : Heard). packets.turned p h (panelAt i b .w) .after) e
 
 -- a packet by TCP is answered 0, and its OK carries these words
@@ -69,12 +70,12 @@ pub record Tells (b : DisplayBox) (l : ℕ) (p area words : List ℕ) : Type 0 w
 pub asked : (b : DisplayBox) (i l k : ℕ) (p area : List ℕ) → Reaches b (tcp l p area) i → heardOf p ≡ Understood (Get k) → Tells b l p area (textOf (saysOf (Get k) (panelAt i b .w)))
 unfolding turn packets.bytesOf
 asked b i l k p area r e = record {
-  says-done = takes r .answer-is ∙ ap (λ (t : Turn WRecord). t .answer) f;
-  carries = takes r .back-is ∙ ap (λ (t : Turn WRecord). backOn area (t .reply)) f;
+  says-done = told (on-link p) r .answer-is ∙ ap (λ (t : Turn WRecord). t .answer) f;
+  carries = told (on-link p) r .back-is ∙ ap (λ (t : Turn WRecord). backOn area (t .reply)) f;
 }
   where
     f : taken (length area) (packets.turnOf p) (panelAt i b .w) ≡ record { after = carried (Get k) (panelAt i b .w); answer = Done; reply = packets.bytesOf p (Ok (saysOf (Get k) (panelAt i b .w))) }
-    f = told-order (length area) p (Get k) (panelAt i b .w) (door-passed (names b) (tcp l p area) (r .passes) .room) e
+    f = told-order (length area) p (Get k) (panelAt i b .w) (has-room (on-link p) r) e
 
 -- a packet that is understood has words that are
 heard-words : (p : List ℕ) (o : Order) → heardOf p ≡ Understood o → readData (dataOf p) ≡ UnderstoodWords o

@@ -13,35 +13,38 @@ use Rattle.panels.specs.declared.Balance.{Balance}
 use Rattle.panels.specs.declared.WRecord.{WRecord}
 use Rattle.panels.specs.declared.DisplayBox.{DisplayBox}
 use Rattle.rs232c_asks.specs.Asks.{heardOf, valuesOf}
-use Rattle.rs232c.specs.Orders.{silent, gainOf, biasOf, decode, put}
-use Rattle.rs232c.specs.Replies.{bytesOf, remoteOf, sensed, turnOf}
-use Rattle.rs232c.specs.declared.Three.{Three}
+use Rattle.rs232c_levels.specs.Levels.{silent}
+use Rattle.rs232c_levels.specs.Levels.{gainOf, biasOf, decode, put}
+use Rattle.rs232c_tells.specs.Texts.{bytesOf, remoteOf, sensed}
+use Rattle.rs232c.specs.Replies.{turnOf}
+use Rattle.rs232c_tells.specs.declared.Three.{Three}
 use Rattle.rs232c_asks.specs.declared.Order.the-variants.{Config, Select, Levels, Sense, Remote}
 use Rattle.rs232c_asks.specs.declared.Heard.the-variants.{Understood}
-use Rattle.rs232c.specs.declared.Reply.{Reply}
-use Rattle.rs232c.specs.declared.Reply.the-variants.{State, Balances}
-use Rattle.rs232c.proofs.AskedBack as back
-use Rattle.steps.specs.Messages.{Message, rs232c, names}
+use Rattle.rs232c_tells.specs.declared.Reply.{Reply}
+use Rattle.rs232c_tells.specs.declared.Reply.the-variants.{State, Balances}
+use Rattle.rs232c.proofs.AskedBack as serialBack
+use Rattle.steps.specs.Messages.{Message, rs232c}
 use Rattle.steps.specs.Addressing.{target, addressed}
 use Rattle.steps.specs.Step.{turn, backOn, panelAt, step}
 use Rattle.steps.specs.Run.{run}
 use Rattle.steps.proofs.Stays.{bears, spared, balance-lasts}
-use Rattle.steps.proofs.Turns.{Reaches, door-passed, done-reaches, takes}
+use Rattle.steps.proofs.Door.{by-rs232c}
+use Rattle.steps.proofs.Turns.{Reaches, has-room, done-reaches, takes, told}
 
 -- a message that comes to the panel of its link: the record afterwards and the reply
 after : {b : DisplayBox} {l i : ℕ} {m area : List ℕ} → Reaches b (rs232c l m area) i → panelAt i (step b (rs232c l m area) .box) .w ≡ taken (length area) (turnOf m) (panelAt i b .w) .after
 unfolding turn
-after r = ap (λ (p : Panel). p .w) (takes r .panel-is)
+after r = ap (λ (p : Panel). p .w) (takes r)
 
 replies : {b : DisplayBox} {l i : ℕ} {m area : List ℕ} (x : Reply) → Reaches b (rs232c l m area) i → taken (length area) (turnOf m) (panelAt i b .w) .reply ≡ bytesOf x → step b (rs232c l m area) .back ≡ backOn area (bytesOf x)
 unfolding turn
-replies {area} x r e = takes r .back-is ∙ ap (backOn area) e
+replies {m} {area} x r e = told (by-rs232c m) r .back-is ∙ ap (backOn area) e
 
 -- 6Eh tells REMOTE as it stands in the record of the panel that it comes to, whoever set it
 pub remote-asked : (b : DisplayBox) (i l s : ℕ) (m area : List ℕ) → Reaches b (rs232c l m area) i → heardOf m ≡ Understood s Remote → step b (rs232c l m area) .back ≡ backOn area (bytesOf (State s (remoteOf (panelAt i b .w))))
 remote-asked b i l s m area r e =
-    let room = door-passed (names b) (rs232c l m area) (r .passes) .room in
-    replies (State s (remoteOf (panelAt i b .w))) r (back.remote-brings (length area) s m (panelAt i b .w) room e)
+    let room = has-room (by-rs232c m) r in
+    replies (State s (remoteOf (panelAt i b .w))) r (serialBack.remote-brings (length area) s m (panelAt i b .w) room e)
 
 -- a message that was answered 0, on the link of the panel at place i
 module _ (b : DisplayBox) (i s : ℕ) (m area : List ℕ) (d : step b (rs232c (suc i) m area) .answer ≡ Done) where
@@ -51,28 +54,28 @@ module _ (b : DisplayBox) (i s : ℕ) (m area : List ℕ) (d : step b (rs232c (s
 
   done : taken (length area) (turnOf m) (panelAt i b .w) .answer ≡ Done
   unfolding turn
-  done = sym (takes came .answer-is) ∙ d
+  done = sym (told (by-rs232c m) came .answer-is) ∙ d
 
   -- 21h: the marked parts are as ordered, but for a connector that is OFF
-  pub config-kept : (marks byte : ℕ) → heardOf m ≡ Understood s (Config marks byte) → back.Configured marks byte (panelAt i b .w .inputs) (panelAt i (step b (rs232c (suc i) m area) .box) .w .inputs)
-  config-kept marks byte e = rw (after came) (back.config-kept (length area) s marks byte m (panelAt i b .w) done e)
+  pub config-kept : (marks byte : ℕ) → heardOf m ≡ Understood s (Config marks byte) → serialBack.Configured marks byte (panelAt i b .w .inputs) (panelAt i (step b (rs232c (suc i) m area) .box) .w .inputs)
+  config-kept marks byte e = rw (after came) (serialBack.config-kept (length area) s marks byte m (panelAt i b .w) done e)
 
   -- 22h: its connector is as ordered, but for OFF where all others are OFF
-  pub select-kept : (byte : ℕ) → heardOf m ≡ Understood s (Select byte) → length (panelAt i b .w .inputs .on) ≡ 10 → back.Selected byte (panelAt i b .w .inputs) (panelAt i (step b (rs232c (suc i) m area) .box) .w .inputs)
-  select-kept byte e n = rw (after came) (back.select-kept (length area) s byte m (panelAt i b .w) n done e)
+  pub select-kept : (byte : ℕ) → heardOf m ≡ Understood s (Select byte) → length (panelAt i b .w .inputs .on) ≡ 10 → serialBack.Selected byte (panelAt i b .w .inputs) (panelAt i (step b (rs232c (suc i) m area) .box) .w .inputs)
+  select-kept byte e n = rw (after came) (serialBack.select-kept (length area) s byte m (panelAt i b .w) n done e)
 
   module _ (mask : ℕ) (e : heardOf m ≡ Understood s (Levels mask)) (g : length (panelAt i b .w .balance .gains) ≡ 3) (h : length (panelAt i b .w .balance .biases) ≡ 3) where
     -- 40h: the record has what was said, and of what nothing was said, what it had
     pub levels-kept : (k : ℕ) → k < 3 → (getD (panelAt i (step b (rs232c (suc i) m area) .box) .w .balance .gains) k 0 ≡ put gainOf (getD (decode 6 mask (valuesOf m)) k silent) (getD (panelAt i b .w .balance .gains) k 0)) × (getD (panelAt i (step b (rs232c (suc i) m area) .box) .w .balance .biases) k (pos 0) ≡ put biasOf (getD (decode 6 mask (valuesOf m)) (3 + k) silent) (getD (panelAt i b .w .balance .biases) k (pos 0)))
-    levels-kept k n = rw (after came) (back.levels-kept (length area) s mask m (panelAt i b .w) g h done e k n)
+    levels-kept k n = rw (after came) (serialBack.levels-kept (length area) s mask m (panelAt i b .w) g h done e k n)
 
     -- 40h, then 61h, next or after any messages without a 40h for the panel: it brings what was said, and of what nothing was said, what the same 61h brings without the 40h
-    pub levels-asked : (ms : List Message) → spared (bears 0x40) i (step b (rs232c (suc i) m area) .box) ms ≡ true → (l s′ which : ℕ) (m′ area′ : List ℕ) → Reaches b (rs232c l m′ area′) i → Reaches (run (step b (rs232c (suc i) m area) .box) ms) (rs232c l m′ area′) i → heardOf m′ ≡ Understood s′ (Sense which) → (before : Three) × (behind : Three) × (step b (rs232c l m′ area′) .back ≡ backOn area′ (bytesOf (Balances s′ which before))) × (step (run (step b (rs232c (suc i) m area) .box) ms) (rs232c l m′ area′) .back ≡ backOn area′ (bytesOf (Balances s′ which behind))) × back.AskedBack which (decode 6 mask (valuesOf m)) before behind
+    pub levels-asked : (ms : List Message) → spared (bears 0x40) i (step b (rs232c (suc i) m area) .box) ms ≡ true → (l s′ which : ℕ) (m′ area′ : List ℕ) → Reaches b (rs232c l m′ area′) i → Reaches (run (step b (rs232c (suc i) m area) .box) ms) (rs232c l m′ area′) i → heardOf m′ ≡ Understood s′ (Sense which) → (before : Three) × (behind : Three) × (step b (rs232c l m′ area′) .back ≡ backOn area′ (bytesOf (Balances s′ which before))) × (step (run (step b (rs232c (suc i) m area) .box) ms) (rs232c l m′ area′) .back ≡ backOn area′ (bytesOf (Balances s′ which behind))) × serialBack.AskedBack which (decode 6 mask (valuesOf m)) before behind
     levels-asked ms n l s′ which m′ area′ r r′ f =
-        let room = door-passed (names b) (rs232c l m′ area′) (r .passes) .room in
-        let t = back.levels-then-sense (length area) s mask m (panelAt i b .w) g h done e (length area′) s′ which m′ room f in
+        let room = has-room (by-rs232c m′) r in
+        let t = serialBack.levels-then-sense (length area) s mask m (panelAt i b .w) g h done e (length area′) s′ which m′ room f in
         let stays = balance-lasts ms (step b (rs232c (suc i) m area) .box) i n ∙ ap (λ (w : WRecord). w .balance) (after came) in
-        let told-then = back.sense-brings (length area′) s′ which m′ (panelAt i (run (step b (rs232c (suc i) m area) .box) ms) .w) room f in
-        let told-now = back.sense-brings (length area′) s′ which m′ (taken (length area) (turnOf m) (panelAt i b .w) .after) room f in
+        let told-then = serialBack.sense-brings (length area′) s′ which m′ (panelAt i (run (step b (rs232c (suc i) m area) .box) ms) .w) room f in
+        let told-now = serialBack.sense-brings (length area′) s′ which m′ (taken (length area) (turnOf m) (panelAt i b .w) .after) room f in
         let q = told-then ∙ ap (λ (x : Balance). bytesOf (Balances s′ which (sensed which x))) stays ∙ sym told-now ∙ t .3 in
         (t .0, t .1, replies (Balances s′ which (t .0)) r (t .2), replies (Balances s′ which (t .1)) r′ q, t .4)

@@ -3,37 +3,19 @@ use Prim.Native.Nat.{ℕ}
 use Prim.Native.String.{String}
 use mathlib.Core.Path.{_≡_, refl}
 use mathlib.Core.List.{List, [], _∷_, _++_, map}
-use lib.Count.{ones, onesIn}
 use lib.IntN.{ℤ, pos, negsuc}
 use lib.ListN.{length, getD, take, drop, replicate}
 use Rattle.laws.specs.Bytes.{ascii}
-use Rattle.laws.specs.Numbers.{number, inBytes}
-use Rattle.sums.specs.Sums.{sumOf}
-use Rattle.decimals.specs.Decimals.{isDigit, decimal, leadsZero, isNumeral, upTo, inDigits, numeral}
+use Rattle.laws.specs.Numbers.{number}
 use Rattle.terms.specs.Answers.{numberOf}
-use Rattle.turns.specs.Turns.{taken}
 use Rattle.panels.specs.Records.{familyW, familyK}
-use Rattle.panels.specs.Valid.{okShift, okGain, okBias, okInputs, okBalance, okW, okInput, okK, okIds, zeroIds, okPanel, share, distinct, valid}
-use Rattle.configure.specs.Configure.{askedAt, asked, configured}
+use Rattle.configure.specs.Configure.{configured}
 use Rattle.panels.specs.declared.Panel.{Panel}
 use Rattle.panels.specs.declared.DisplayBox.{DisplayBox}
-use Rattle.setting_words.specs.Names.{namedBy, ledBy}
-use Rattle.vmc.specs.Orders as words
-use Rattle.vmc_asks.specs.Asks.{readData, readSet, readGet, valueOrder, shiftOrder}
-use Rattle.vmc_tells.specs.Texts.{textOf, setWords, valueWords}
-use Rattle.rs232c_asks.specs.Asks as heard
-use Rattle.rs232c.specs.Orders as orders
-use Rattle.rs232c.specs.Replies as serial
-use Rattle.kjw.specs.Frames as letters
-use Rattle.kjw_asks.specs.Frames as lettersFrames
-use Rattle.kjw.specs.Rules as frames
-use Rattle.kjw_asks.specs.Asks as framesAsks
-use Rattle.sdcp_asks.specs.Asks as asks
-use Rattle.sdcp.specs.Replies as packets
-use Rattle.steps.specs.Messages.{Message, rs232c, kjw, tcp, udp, nameOf, names}
-use Rattle.steps.specs.Addressing as address
-use Rattle.steps.specs.Step.{panelAt, toNobody, door, turn, Outcome, step}
+use Rattle.steps.specs.Messages.{Message, rs232c, kjw, tcp, udp}
+use Rattle.steps.specs.Step.{panelAt, Outcome, step}
 use Rattle.steps.specs.Run.{run}
+use Rattle.steps.proofs.Opened.{opened}
 
 -- W 1/1, W 1/2, K and W 2/1 at their start values, on the links 1 to 4
 abbrev pub box : DisplayBox
@@ -109,7 +91,8 @@ packet group unit request high low body = 0x03 ∷ 0x0b ∷ 0x53 ∷ 0x4f ∷ 0x
 abbrev pub onTcp : ℕ → String → Message
 onTcp size text = tcp 1 (packet 0x00 0x00 0x00 0x00 size (ascii text)) (lent 512)
 
-abbrev line : String → List ℕ
+-- a KJW frame
+abbrev pub line : String → List ℕ
 line s = ascii s ++ (0x0a ∷ [])
 
 abbrev onKjw : String → Message
@@ -162,7 +145,7 @@ bench =
 
 -- every row of the bench is what the step gives: its answer, its reply, the bytes behind it and what it left in the record
 pub tried : map seen bench ≡ map expected bench
-unfolding configured asked askedAt valid okPanel okIds zeroIds okW okK okInput okInputs okBalance okGain okBias okShift share distinct nameOf names address.hasIds address.byTcp address.target address.addressed door turn step heard.isForeign heard.isBroken sumOf heard.levelsCommand heard.commandOf heard.heardOf ones onesIn orders.decode orders.balancedBy orders.carried serial.frameOf serial.bytesOf serial.replyTo serial.turned taken lettersFrames.frameOf lettersFrames.lettersOf lettersFrames.stateLetters letters.switchWord letters.valueOf framesAsks.switchOf framesAsks.upTo framesAsks.controlOf framesAsks.isOurs framesAsks.heardOf frames.carried frames.noticed frames.replyOf frames.decided frames.bytesOf frames.turnOf asks.isOurs asks.isBroken asks.heardOf number inBytes packets.packetOf packets.bytesOf packets.turned isDigit decimal inDigits numeral namedBy ledBy words.carried words.saysOf readData readSet readGet valueOrder upTo isNumeral leadsZero shiftOrder textOf setWords valueWords
+unfolding opened
 tried = refl
 
 -- to every W panel of a group: `03 0B 53 4F 4E 59`, group, FFh
@@ -206,5 +189,5 @@ more =
 
 -- and so is every one of these
 pub tried-more : map seen more ≡ map expected more
-unfolding configured asked askedAt valid okPanel okIds zeroIds okW okK okInput okInputs okBalance okGain okBias okShift share distinct nameOf names address.hasIds address.isPair address.pairNumber address.byTcp address.target address.isCalled address.addressed toNobody door turn step heard.isForeign heard.isBroken sumOf heard.levelsCommand heard.commandOf heard.heardOf ones onesIn serial.frameOf serial.bytesOf serial.replyTo serial.turned taken lettersFrames.frameOf lettersFrames.lettersOf lettersFrames.stateLetters framesAsks.isInput framesAsks.inputOrder framesAsks.controlOf framesAsks.isOurs framesAsks.heardOf frames.decided frames.bytesOf frames.turnOf asks.isOurs asks.isBroken asks.heardOf number inBytes packets.packetOf packets.bytesOf packets.turned isDigit decimal inDigits ledBy words.carried words.saysOf readData readSet valueOrder upTo isNumeral leadsZero textOf
+unfolding opened
 tried-more = refl

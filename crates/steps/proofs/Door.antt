@@ -1,32 +1,54 @@
--- What passes the door and is addressed to a place finds there a panel of the family that its way in speaks to; and what one step
--- does to one place.
-use mathlib.Core.Path.{_≡_, refl}
+-- What passes the door and is addressed to a place finds there a panel of the family that its way in speaks to: the door judges the
+-- link, and a pair or a group finds W panels only.
+use mathlib.Core.Path.{_≡_, refl, sym, ap, _∙_}
 use mathlib.Core.Bool.{Bool, true, false, cond, _&&_}
 use mathlib.Core.List.{List, []}
-use Prim.Native.Nat.{ℕ, zero, suc, _<_}
+use Prim.Native.Nat.{ℕ, zero, suc, _≤_}
 use native.Mathlib.Omega.{arith}
 use lib.Dec.{eqb, ltb}
 use lib.ListN.{length, getD}
-use borrow.Author.Tests.{eqb-true}
-use Rattle.laws.proofs.Conditions.{false-true, choose}
-use Rattle.laws.proofs.Runs.{each-at}
+use borrow.Author.Tests.{eqb-true, ltb-false}
+use Rattle.laws.proofs.Conditions.{choose, passed as rung}
 use Rattle.terms.specs.Answers.{numberOf}
+use Rattle.terms.proofs.Answers.{number-tells}
 use Rattle.terms.specs.declared.Answer.{Answer}
 use Rattle.terms.specs.declared.Answer.the-variants.{Done, AreaTooSmall, NoSuchPanel, WrongLength, NotForUs}
 use Rattle.terms.specs.declared.GroupId.{GroupId}
 use Rattle.terms.specs.declared.UnitId.{UnitId}
-use Rattle.panels.specs.Records.{pastEnd}
-use Rattle.panels.specs.declared.Panel.{Panel}
 use Rattle.panels.specs.declared.DisplayBox.{DisplayBox}
 use Rattle.sdcp_asks.specs.Asks.{groupOf, unitOf}
 use Rattle.steps.specs.Messages.{Message, rs232c, kjw, tcp, udp, Name, nobody, aW, aK, names, onLink, isW, isK}
 use Rattle.steps.specs.Addressing.{hasIds, isId, isPair, byTcp, target, isCalled, addressed, pairNumber}
-use Rattle.steps.specs.Step.{ifOpen, toNobody, door, turn, Outcome, panelAt, passed, refused, step}
+use Rattle.steps.specs.Step.{ifOpen, toNobody, door, Outcome, passed, refused, step}
 use Rattle.steps.proofs.Finding.{found}
+
+-- a message that comes with a link and "with a lent reply area"
+pub data Lends (l : ℕ) (area : List ℕ) : Message → Type 0 where
+  by-rs232c : (m : List ℕ) → Lends l area (rs232c l m area)
+  by-kjw : (m : List ℕ) → Lends l area (kjw l m area)
+  by-tcp : (m : List ℕ) → Lends l area (tcp l m area)
+
+-- "All but UDP come with a lent reply area."
+pub by-way : (P : Message → Type 0) → ((l : ℕ) (area : List ℕ) (m : Message) → Lends l area m → P m) → ((m : List ℕ) → P (udp m)) → (m : Message) → P m
+by-way P with-link by-udp (rs232c l m area) = with-link l area (rs232c l m area) (by-rs232c m)
+by-way P with-link by-udp (kjw l m area) = with-link l area (kjw l m area) (by-kjw m)
+by-way P with-link by-udp (tcp l m area) = with-link l area (tcp l m area) (by-tcp m)
+by-way P with-link by-udp (udp m) = by-udp m
 
 -- checks 1, 2 and 4 are passed
 abbrev pub opens : List Name → Message → Bool
 opens ns m = eqb (numberOf (door ns m)) 0
+
+pub opens-done : (ns : List Name) (m : Message) → opens ns m ≡ true → door ns m ≡ Done
+opens-done ns m o = number-tells (door ns m) Done (eqb-true (numberOf (door ns m)) 0 o)
+
+pub done-opens : (ns : List Name) (m : Message) → door ns m ≡ Done → opens ns m ≡ true
+done-opens ns m d = ap (λ (a : Answer). eqb (numberOf a) 0) d
+
+-- what holds of a message that passed the door and of one that was refused there holds of every step
+pub by-door : (P : Outcome → Type 0) (b : DisplayBox) (m : Message) → (opens (names b) m ≡ true → P (passed (names b) b m)) → (opens (names b) m ≡ false → P (refused b m (door (names b) m))) → P (step b m)
+unfolding step
+by-door P b m = choose P (opens (names b) m) (passed (names b) b m) (refused b m (door (names b) m))
 
 -- ---- a box of no panels opens to nobody
 
@@ -63,9 +85,29 @@ nobody-speaks (kjw l m area) = refl
 nobody-speaks (tcp l m area) = refl
 nobody-speaks (udp m) = refl
 
-lent-fits : (area : List ℕ) (fits : Bool) (rest : Answer) → eqb (numberOf (ifOpen area fits rest)) 0 ≡ true → fits ≡ true
-lent-fits area true rest e = refl
-lent-fits area false rest e = absurd (false-true (cc (lent-shut area rest)))
+-- checks 1 and 2 stand before all others of a message with a link
+pub lent-door : {l : ℕ} {area : List ℕ} {m : Message} (ns : List Name) → Lends l area m → (rest : Answer) × (door ns m ≡ ifOpen area (speaks m (onLink ns l)) rest)
+unfolding door
+lent-door ns (by-rs232c m) = (Done, refl)
+lent-door ns (by-kjw m) = (Done, refl)
+lent-door {l} {area} ns (by-tcp m) = (cond (eqb (target ns (tcp l m area)) 0) (toNobody m) Done, refl)
+
+-- "1 reply area under 512 bytes", "2 no panel with that link number, or it is of the other family": past them, neither applies
+pub record Lent (area : List ℕ) (fits : Bool) : Type 0 where
+  pub room : 512 ≤ length area
+  pub link-fits : fits ≡ true
+
+lent-passed : (area : List ℕ) (fits : Bool) (rest : Answer) → ifOpen area fits rest ≡ Done → Lent area fits
+lent-passed area fits rest e =
+    let t = rung (ltb (length area) 512) AreaTooSmall (cond fits rest NoSuchPanel) Done (λ q. let z : _≡_ {A = ℕ} 1 0 = ap numberOf q in omega arith) e in
+    record { room = ltb-false (length area) 512 (t .0); link-fits = go fits (t .1) }
+  where
+    go : (f : Bool) → cond f rest NoSuchPanel ≡ Done → f ≡ true
+    go true q = refl
+    go false q = absurd (let z : _≡_ {A = ℕ} 2 0 = ap numberOf q in omega arith)
+
+pub door-passed : {l : ℕ} {area : List ℕ} {m : Message} (ns : List Name) → Lends l area m → door ns m ≡ Done → Lent area (speaks m (onLink ns l))
+door-passed {l} {area} {m} ns k e = lent-passed area (speaks m (onLink ns l)) (lent-door ns k .0) (sym (lent-door ns k .1) ∙ e)
 
 pair-w : (g : GroupId) (u : UnitId) (x : Name) → isPair g u x ≡ true → isW x ≡ true
 unfolding isPair
@@ -102,25 +144,9 @@ tcp-w ns l m i w =
     no : eqb 0 (suc i) ≡ true → isW (getD ns i nobody) ≡ true
     no e = absurd (let z = eqb-true 0 (suc i) e in omega arith)
 
-pub its-family : (ns : List Name) (m : Message) (i : ℕ) → opens ns m ≡ true → addressed ns m i ≡ true → speaks m (getD ns i nobody) ≡ true
-unfolding door addressed target
-its-family ns (rs232c l m area) i o a = link-is isW ns l i a (lent-fits area (isW (onLink ns l)) Done o)
-its-family ns (kjw l m area) i o a = link-is isK ns l i a (lent-fits area (isK (onLink ns l)) Done o)
-its-family ns (tcp l m area) i o a = tcp-w ns l m i (lent-fits area (isW (onLink ns l)) _ o) a
-its-family ns (udp m) i o a = called-w m (getD ns i nobody) a
-
--- ---- the step
-
--- what holds of a message that passed the door and of one that was refused there holds of every step
-pub by-door : (P : Outcome → Type 0) (b : DisplayBox) (m : Message) → (opens (names b) m ≡ true → P (passed (names b) b m)) → (opens (names b) m ≡ false → P (refused b m (door (names b) m))) → P (step b m)
-unfolding step
-by-door P b m = choose P (opens (names b) m) (passed (names b) b m) (refused b m (door (names b) m))
-
--- the panel at a place after a step: its turn where the door is passed and it is addressed, else the panel as it was
-pub at-step : (b : DisplayBox) (m : Message) (i : ℕ) → i < length (b .panels) → panelAt i (step b m .box) ≡ cond (opens (names b) m && addressed (names b) m i) (turn m (panelAt i b) .after) (panelAt i b)
-unfolding step
-at-step b m i h = go (opens (names b) m)
-  where
-    go : (o : Bool) → panelAt i (cond o (passed (names b) b m) (refused b m (door (names b) m)) .box) ≡ cond (o && addressed (names b) m i) (turn m (panelAt i b) .after) (panelAt i b)
-    go true = each-at (addressed (names b) m) (λ (p : Panel). turn m p .after) (b .panels) i pastEnd h
-    go false = refl
+pub its-family : (ns : List Name) (m : Message) (i : ℕ) → door ns m ≡ Done → addressed ns m i ≡ true → speaks m (getD ns i nobody) ≡ true
+unfolding addressed target
+its-family ns (rs232c l m area) i d a = link-is isW ns l i a (door-passed ns (by-rs232c m) d .link-fits)
+its-family ns (kjw l m area) i d a = link-is isK ns l i a (door-passed ns (by-kjw m) d .link-fits)
+its-family ns (tcp l m area) i d a = tcp-w ns l m i (door-passed ns (by-tcp m) d .link-fits) a
+its-family ns (udp m) i d a = called-w m (getD ns i nobody) a

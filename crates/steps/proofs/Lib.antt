@@ -6,13 +6,15 @@ pub mod AskedBackSerial
 pub mod Bench
 pub mod Door
 pub mod Finding
-pub mod Validity
+pub mod Notices
 pub mod Numbered
 pub mod Obeyed
+pub mod Opened
 pub mod Refusals
 pub mod Shapes
 pub mod Sound
 pub mod Standins
 pub mod Stays
 pub mod Turns
+pub mod Validity
 pub mod Witness

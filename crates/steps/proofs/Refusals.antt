@@ -4,47 +4,29 @@ use mathlib.Core.Path.{_≡_, refl, sym, ap, _∙_}
 use mathlib.Core.Bool.{Bool, true, false}
 use mathlib.Core.List.{List, [], _∷_}
 use Prim.Native.Nat.{ℕ, zero, suc, _-_, _<_, _≤_}
-use native.Mathlib.Omega.{arith}
 use lib.Dec.{eqb}
 use lib.ListN.{length, getD}
 use lib.Seq.{ext-getD}
-use borrow.Author.Tests.{eqb-true, eq-eqb, lt-ltb, le-ltb}
+use borrow.Author.Tests.{eq-eqb, lt-ltb, le-ltb}
 use Rattle.laws.specs.Runs.{each}
 use Rattle.laws.proofs.Conditions.{false-true, choose}
 use Rattle.laws.proofs.Runs.{each-at, each-length}
 use Rattle.terms.specs.Answers.{numberOf}
 use Rattle.terms.specs.declared.Answer.{Answer}
 use Rattle.terms.specs.declared.Answer.the-variants.{AreaTooSmall, NoSuchPanel, WrongLength, NotForUs}
-use Rattle.turns.specs.Turns.{Turn}
 use Rattle.panels.specs.Records.{pastEnd}
 use Rattle.panels.specs.Valid.{valid}
 use Rattle.panels.specs.declared.Panel.{Panel}
 use Rattle.panels.specs.declared.DisplayBox.{DisplayBox}
-use Rattle.sdcp_asks.specs.Asks.{heardOf}
-use Rattle.sdcp.proofs.Refusals.{turned-answer}
 use Rattle.steps.specs.Messages.{Message, rs232c, kjw, tcp, udp, Name, nobody, names, onLink, isW}
 use Rattle.steps.specs.Addressing.{target, isCalled, addressed, anyCalled}
 use Rattle.steps.specs.Step.{toNobody, door, turn, nothing, back, Outcome, panelAt, ownTurn, answerTo, refused, step}
 use Rattle.steps.proofs.Sound.{sound}
-use Rattle.steps.proofs.Door.{no-link, nobody-shut, speaks, nobody-speaks, by-door}
+use Rattle.steps.proofs.Door.{Lends, by-rs232c, by-kjw, by-tcp, no-link, nobody-shut, speaks, nobody-speaks, lent-door, by-door}
+use Rattle.steps.proofs.Turns.{own-answer}
 use Rattle.steps.proofs.Validity.{bad-names}
 
 -- ---- every answer but 0 leaves the box
-
-own-place : (t i : ℕ) → eqb t (suc i) ≡ true → t - 1 ≡ i
-own-place t i e = let q = eqb-true t (suc i) e in omega arith
-
--- the turn whose reply and answer are given is that of the panel addressed
-pub own-turn : (ns : List Name) (b : DisplayBox) (m : Message) (i : ℕ) → eqb (target ns m) (suc i) ≡ true → ownTurn ns b m ≡ turn m (panelAt i b)
-own-turn ns b m i e = ap (λ (j : ℕ). turn m (panelAt j b)) (own-place (target ns m) i e)
-
--- the answer given is that of each panel addressed
-pub own-answer : (ns : List Name) (b : DisplayBox) (m : Message) (i : ℕ) → addressed ns m i ≡ true → answerTo ns b m ≡ turn m (panelAt i b) .answer
-unfolding addressed turn
-own-answer ns b (rs232c l m area) i e = ap (λ (t : Turn Panel). t .answer) (own-turn ns b (rs232c l m area) i e)
-own-answer ns b (kjw l m area) i e = ap (λ (t : Turn Panel). t .answer) (own-turn ns b (kjw l m area) i e)
-own-answer ns b (tcp l m area) i e = ap (λ (t : Turn Panel). t .answer) (own-turn ns b (tcp l m area) i e)
-own-answer ns b (udp m) i e = sym (turned-answer m (heardOf m) (panelAt i b .w))
 
 -- panels that each stay where they are called all stay
 each-left : (called : ℕ → Bool) (f : Panel → Panel) (ps : List Panel) → ((i : ℕ) → called i ≡ true → f (getD ps i pastEnd) ≡ getD ps i pastEnd) → each called f ps ≡ ps
@@ -79,12 +61,6 @@ early-quiet b m =
     by-door (λ (o : Outcome). (numberOf (o .answer) ≡ 0 → ⊥) → numberOf (o .answer) < 5 → o .back ≡ back m []) b m
     (λ e. own-quiet (names b) b m) (λ e z k. refl)
 
--- a message that comes with a link and "with a ifOpen reply area"
-pub data Lends (l : ℕ) (area : List ℕ) : Message → Type 0 where
-  by-rs232c : (m : List ℕ) → Lends l area (rs232c l m area)
-  by-kjw : (m : List ℕ) → Lends l area (kjw l m area)
-  by-tcp : (m : List ℕ) → Lends l area (tcp l m area)
-
 -- no reply: "the reply's length is returned (0 when there is none)", and all bytes of the area "keep what they held"
 pub none-sent : (l : ℕ) (area : List ℕ) (m : Message) → Lends l area m → back m [] ≡ record { len = 0; area = area }
 none-sent l area _ (by-rs232c m) = refl
@@ -97,25 +73,13 @@ stopped : (b : DisplayBox) (m : Message) (a : Answer) → door (names b) m ≡ a
 unfolding step
 stopped b m a d z = rw (d, z)
 
-small-door : (ns : List Name) (l : ℕ) (area : List ℕ) (m : Message) → Lends l area m → length area < 512 → door ns m ≡ AreaTooSmall
-unfolding door
-small-door ns l area _ (by-rs232c m) h = rw (lt-ltb (length area) 512 h)
-small-door ns l area _ (by-kjw m) h = rw (lt-ltb (length area) 512 h)
-small-door ns l area _ (by-tcp m) h = rw (lt-ltb (length area) 512 h)
-
 -- "1 reply area under 512 bytes": the first check, whatever the box, the link and the bytes
 pub too-small : (b : DisplayBox) (l : ℕ) (area : List ℕ) (m : Message) → Lends l area m → length area < 512 → step b m ≡ refused b m AreaTooSmall
-too-small b l area m k h = stopped b m AreaTooSmall (small-door (names b) l area m k h) refl
-
-link-door : (ns : List Name) (l : ℕ) (area : List ℕ) (m : Message) → Lends l area m → 512 ≤ length area → speaks m (onLink ns l) ≡ false → door ns m ≡ NoSuchPanel
-unfolding door
-link-door ns l area _ (by-rs232c m) h s = rw (le-ltb (length area) 512 h, s)
-link-door ns l area _ (by-kjw m) h s = rw (le-ltb (length area) 512 h, s)
-link-door ns l area _ (by-tcp m) h s = rw (le-ltb (length area) 512 h, s)
+too-small b l area m k h = stopped b m AreaTooSmall (lent-door (names b) k .1 ∙ rw (lt-ltb (length area) 512 h)) refl
 
 -- "2 no panel with that link number, or it is of the other family"
 pub no-such-panel : (b : DisplayBox) (l : ℕ) (area : List ℕ) (m : Message) → Lends l area m → 512 ≤ length area → speaks m (onLink (names b) l) ≡ false → step b m ≡ refused b m NoSuchPanel
-no-such-panel b l area m k h s = stopped b m NoSuchPanel (link-door (names b) l area m k h s) refl
+no-such-panel b l area m k h s = stopped b m NoSuchPanel (lent-door (names b) k .1 ∙ rw (le-ltb (length area) 512 h, s)) refl
 
 -- "A box of no panels answers 3 or 4 to UDP, and 2 to other messages once check 1 is passed", and so does one that breaks the rules
 pub bad-lent : (b : DisplayBox) (l : ℕ) (area : List ℕ) (m : Message) → valid b ≡ false → Lends l area m → 512 ≤ length area → step b m ≡ refused b m NoSuchPanel

@@ -1,38 +1,40 @@
 -- The arrays of a W record keep their lengths through every run, so what was set stands in every box that a configuration and messages lead to.
-use Prim.Native.Nat.{ℕ, zero, suc, _+_, _/_, _%_, _<_}
+use Prim.Native.Nat.{ℕ, zero, suc, _/_, _%_, _<_}
 use mathlib.Core.Path.{_≡_, refl, ap, _∙_}
-use mathlib.Core.Bool.{Bool, true, false, cond, _&&_}
+use mathlib.Core.Bool.{true, _&&_}
 use mathlib.Core.List.{List, [], _∷_}
 use lib.Dec.{eqb, ltb}
 use native.Mathlib.Omega.{arith}
-use lib.IntN.{ℤ, pos}
-use lib.ListN.{length, getD, set, take, drop, length-set, length-replicate}
+use lib.ListN.{length, getD, set, take, drop, length-set}
 use Rattle.laws.specs.Lists.{every, places}
 use Rattle.laws.proofs.Conditions.{choose}
 use Rattle.terms.specs.declared.Answer.the-variants.{Done}
 use Rattle.turns.specs.Turns.{Turn}
 use Rattle.turns.proofs.Turns.{either as behind}
 use Rattle.panels.specs.Records.{startW, zeroPanel, pastEnd}
-use Rattle.configure.specs.Configure.{freshPanel, askedAt, asked, refusal, configured}
+use Rattle.configure.specs.Configure.{askedAt, asked, refusal, configured}
 use Rattle.panels.specs.Valid.{valid}
 use Rattle.panels.specs.declared.Panel.{Panel}
-use Rattle.panels.specs.declared.Inputs.{Inputs}
-use Rattle.panels.specs.declared.Balance.{Balance}
 use Rattle.panels.specs.declared.WRecord.{WRecord}
 use Rattle.panels.specs.declared.DisplayBox.{DisplayBox}
 use Rattle.configure.specs.declared.Configured.{Configured}
 use Rattle.vmc.specs.Orders as words
-use Rattle.vmc_asks.specs.declared.Order as wordsOrder
+use Rattle.vmc_asks.specs.declared.Order as wordOrder
 use Rattle.vmc_asks.specs.declared.Order.the-variants.{Set, Shift, Reset, Get}
-use Rattle.rs232c_asks.specs.Asks as serialForms
-use Rattle.rs232c.specs.Orders as serial
-use Rattle.rs232c_asks.specs.Commands as serialCommands
-use Rattle.rs232c.specs.Replies as serialReplies
+use Rattle.rs232c_asks.specs.Asks as serialAsks
+use Rattle.rs232c.specs.Orders as serialOrders
+use Rattle.rs232c_levels.specs.Levels as serialLevels
+use Rattle.rs232c_inputs.specs.Inputs as serialInputs
+use Rattle.rs232c_asks.specs.Commands.{connectorOf, actOf}
+use Rattle.rs232c.specs.Replies as serial
 use Rattle.rs232c_asks.specs.declared.Heard as serialHeard
+use Rattle.rs232c_asks.specs.declared.Heard.the-variants as serialIs
 use Rattle.rs232c_asks.specs.declared.Order as serialOrder
+use Rattle.rs232c_asks.specs.declared.Order.the-variants.{Config, Select, Levels, Sense, Remote}
 use Rattle.sdcp_asks.specs.Asks.{heardOf}
 use Rattle.sdcp.specs.Replies as packets
 use Rattle.sdcp_asks.specs.declared.Heard as packetHeard
+use Rattle.sdcp_asks.specs.declared.Heard.the-variants as packetIs
 use Rattle.sdcp_asks.specs.declared.Heard.the-variants.{Understood}
 use Rattle.steps.specs.Messages.{Message, rs232c, kjw, tcp, udp, names}
 use Rattle.steps.specs.Addressing.{addressed}
@@ -50,58 +52,58 @@ pub record Shaped (w : WRecord) : Type 0 where
 
 -- ---- an order keeps the lengths
 
-words-keep : (o : wordsOrder.Order) (w : WRecord) → Shaped w → Shaped (words.carried o w)
+words-keep : (o : wordOrder.Order) (w : WRecord) → Shaped w → Shaped (words.carried o w)
 unfolding words.carried
 words-keep (Set k v) w s = record { settings-21 = length-set (w .settings) k v ∙ s .settings-21; shifts-2 = s .shifts-2; on-10 = s .on-10; gains-3 = s .gains-3; biases-3 = s .biases-3 }
 words-keep (Shift axis z) w s = record { settings-21 = s .settings-21; shifts-2 = length-set (w .shifts) axis z ∙ s .shifts-2; on-10 = s .on-10; gains-3 = s .gains-3; biases-3 = s .biases-3 }
 words-keep Reset w s = record { settings-21 = s .settings-21; shifts-2 = refl; on-10 = s .on-10; gains-3 = s .gains-3; biases-3 = s .biases-3 }
 words-keep (Get k) w s = s
 
-on-keeps : (byte : ℕ) (on : List ℕ) → length on ≡ 10 → length (serial.onAfter byte on) ≡ 10
-unfolding serial.onAfter serial.turnedOff
+on-keeps : (byte : ℕ) (on : List ℕ) → length on ≡ 10 → length (serialInputs.onAfter byte on) ≡ 10
+unfolding serialInputs.onAfter serialInputs.turnedOff
 on-keeps byte on e =
-    let place = serial.placeOf (serialCommands.connectorOf byte) in
+    let place = serialInputs.placeOf (connectorOf byte) in
     let P : List ℕ → Type 0 = λ (l : List ℕ). length l ≡ 10 in
-    choose (λ (l : List ℕ). length l ≡ 10) (eqb (serialCommands.actOf byte) 1) _ _
+    choose (λ (l : List ℕ). length l ≡ 10) (eqb (actOf byte) 1) _ _
     (λ f. choose (λ (l : List ℕ). length l ≡ 10) (every (eqb 0) (set on place 0)) on (set on place 0) (λ g. e) (λ g. length-set on place 0 ∙ e))
-    (λ f. choose (λ (l : List ℕ). length l ≡ 10) (eqb (serialCommands.actOf byte) 2) (set on place 1) _ (λ g. length-set on place 1 ∙ e) (λ g. refl))
+    (λ f. choose (λ (l : List ℕ). length l ≡ 10) (eqb (actOf byte) 2) (set on place 1) _ (λ g. length-set on place 1 ∙ e) (λ g. refl))
 
-puts-length : {A : Type 0} (f : ℕ → A) (ss : List serial.Say) (l : List A) → length (serial.puts f ss l) ≡ length l
+puts-length : {A : Type 0} (f : ℕ → A) (ss : List serialLevels.Say) (l : List A) → length (serialLevels.puts f ss l) ≡ length l
 puts-length f ss [] = refl
 puts-length f [] (x ∷ l) = refl
 puts-length f (s ∷ ss) (x ∷ l) = ap suc (puts-length f ss l)
 
-serial-keep : (o : serialOrder.Order) (vs : List ℕ) (w : WRecord) → Shaped w → Shaped (serial.carried o vs w)
-unfolding serial.carried serial.balancedBy
-serial-keep (serialOrder.the-variants.Config marks byte) vs w s = record { settings-21 = s .settings-21; shifts-2 = s .shifts-2; on-10 = s .on-10; gains-3 = s .gains-3; biases-3 = s .biases-3 }
-serial-keep (serialOrder.the-variants.Select byte) vs w s = record { settings-21 = s .settings-21; shifts-2 = s .shifts-2; on-10 = on-keeps byte (w .inputs .on) (s .on-10); gains-3 = s .gains-3; biases-3 = s .biases-3 }
-serial-keep (serialOrder.the-variants.Levels mask) vs w s = record {
+serial-keep : (o : serialOrder.Order) (vs : List ℕ) (w : WRecord) → Shaped w → Shaped (serialOrders.carried o vs w)
+unfolding serialOrders.carried serialLevels.balancedBy
+serial-keep (Config marks byte) vs w s = record { settings-21 = s .settings-21; shifts-2 = s .shifts-2; on-10 = s .on-10; gains-3 = s .gains-3; biases-3 = s .biases-3 }
+serial-keep (Select byte) vs w s = record { settings-21 = s .settings-21; shifts-2 = s .shifts-2; on-10 = on-keeps byte (w .inputs .on) (s .on-10); gains-3 = s .gains-3; biases-3 = s .biases-3 }
+serial-keep (Levels mask) vs w s = record {
   settings-21 = s .settings-21;
   shifts-2 = s .shifts-2;
   on-10 = s .on-10;
-  gains-3 = puts-length serial.gainOf (take 3 (serial.decode 6 mask vs)) (w .balance .gains) ∙ s .gains-3;
-  biases-3 = puts-length serial.biasOf (drop 3 (serial.decode 6 mask vs)) (w .balance .biases) ∙ s .biases-3;
+  gains-3 = puts-length serialLevels.gainOf (take 3 (serialLevels.decode 6 mask vs)) (w .balance .gains) ∙ s .gains-3;
+  biases-3 = puts-length serialLevels.biasOf (drop 3 (serialLevels.decode 6 mask vs)) (w .balance .biases) ∙ s .biases-3;
 }
-serial-keep (serialOrder.the-variants.Sense which) vs w s = s
-serial-keep serialOrder.the-variants.Remote vs w s = s
+serial-keep (Sense which) vs w s = s
+serial-keep Remote vs w s = s
 
-serial-turned : (h : serialHeard.Heard) (vs : List ℕ) (w : WRecord) → Shaped w → Shaped (serialReplies.turned h vs w .after)
-unfolding serialReplies.turned
-serial-turned (serialHeard.the-variants.Refused a) vs w s = s
-serial-turned (serialHeard.the-variants.Broken x) vs w s = s
-serial-turned (serialHeard.the-variants.NotUnderstood x) vs w s = s
-serial-turned (serialHeard.the-variants.Understood x o) vs w s = serial-keep o vs w s
+serial-turned : (h : serialHeard.Heard) (vs : List ℕ) (w : WRecord) → Shaped w → Shaped (serial.turned h vs w .after)
+unfolding serial.turned
+serial-turned (serialIs.Refused a) vs w s = s
+serial-turned (serialIs.Broken x) vs w s = s
+serial-turned (serialIs.NotUnderstood x) vs w s = s
+serial-turned (serialIs.Understood x o) vs w s = serial-keep o vs w s
 
 packet-turned : (m : List ℕ) (h : packetHeard.Heard) (w : WRecord) → Shaped w → Shaped (packets.turned m h w .after)
 unfolding packets.turned
-packet-turned m (packetHeard.the-variants.Refused a) w s = s
-packet-turned m packetHeard.the-variants.Broken w s = s
-packet-turned m packetHeard.the-variants.NotUnderstood w s = s
-packet-turned m (packetHeard.the-variants.Understood o) w s = words-keep o w s
+packet-turned m (packetIs.Refused a) w s = s
+packet-turned m packetIs.Broken w s = s
+packet-turned m packetIs.NotUnderstood w s = s
+packet-turned m (packetIs.Understood o) w s = words-keep o w s
 
 turn-shaped : (m : Message) (p : Panel) → Shaped (p .w) → Shaped (turn m p .after .w)
 unfolding turn
-turn-shaped (rs232c l m area) p s = behind (λ (t : Turn WRecord). Shaped (t .after)) (length area) (serialReplies.turnOf m) (p .w) s (serial-turned (serialForms.heardOf m) (serialForms.valuesOf m) (p .w) s)
+turn-shaped (rs232c l m area) p s = behind (λ (t : Turn WRecord). Shaped (t .after)) (length area) (serial.turnOf m) (p .w) s (serial-turned (serialAsks.heardOf m) (serialAsks.valuesOf m) (p .w) s)
 turn-shaped (kjw l m area) p s = s
 turn-shaped (tcp l m area) p s = behind (λ (t : Turn WRecord). Shaped (t .after)) (length area) (packets.turnOf m) (p .w) s (packet-turned m (heardOf m) (p .w) s)
 turn-shaped (udp m) p s = packet-turned m (heardOf m) (p .w) s

@@ -11,24 +11,28 @@ use Rattle.terms.specs.Answers.{numberOf}
 use Rattle.turns.specs.Turns.{Turn, taken, within}
 use Rattle.turns.proofs.Turns.{either}
 use Rattle.panels.specs.Records.{familyW, familyK}
-use Rattle.panels.specs.Valid.{okW, okK, okIds, zeroIds, okPanel}
+use Rattle.panels.specs.Valid.{okW, okK, okIds, zeroIds, okFamily, okPanel}
 use Rattle.panels.specs.declared.Panel.{Panel}
 use Rattle.panels.specs.declared.WRecord.{WRecord}
 use Rattle.panels.specs.declared.KRecord.{KRecord}
-use Rattle.rs232c_asks.specs.Asks as serialForms
+use Rattle.rs232c_asks.specs.Asks as serialAsks
 use Rattle.rs232c.specs.Replies as serial
 use Rattle.rs232c_asks.specs.declared.Heard as serialHeard
-use Rattle.rs232c.proofs.Refusals as serialTold
-use Rattle.rs232c.proofs.Validity as serialKept
-use Rattle.kjw.specs.Rules as frames
-use Rattle.kjw_asks.specs.Asks as framesAsks
-use Rattle.kjw_asks.specs.declared.Heard as frameHeard
-use Rattle.kjw.proofs.Validity as frameKept
-use Rattle.kjw.proofs.Refusals as frameKeptRefusals
-use Rattle.sdcp_asks.specs.Asks as packetForms
+use Rattle.rs232c_asks.specs.declared.Heard.the-variants as serialIs
+use Rattle.rs232c.proofs.Refusals as serialRefusals
+use Rattle.rs232c.proofs.Validity as serialValidity
+use Rattle.kjw.specs.Replies as frames
+use Rattle.kjw_tells.specs.Texts as frameTexts
+use Rattle.kjw_asks.specs.Asks as frameAsks
+use Rattle.kjw_sets.specs.declared.Heard as frameHeard
+use Rattle.kjw_sets.specs.declared.Heard.the-variants as frameIs
+use Rattle.kjw.proofs.Validity as frameValidity
+use Rattle.kjw.proofs.Refusals as frameRefusals
+use Rattle.sdcp_asks.specs.Asks as packetAsks
 use Rattle.sdcp.specs.Replies as packets
 use Rattle.sdcp_asks.specs.declared.Heard as packetHeard
-use Rattle.sdcp.proofs.Refusals as packetTold
+use Rattle.sdcp_asks.specs.declared.Heard.the-variants as packetIs
+use Rattle.sdcp.proofs.Refusals as packetRefusals
 use Rattle.steps.specs.Messages.{Message, rs232c, kjw, tcp, udp, nameOf}
 use Rattle.steps.specs.Step.{withW, withK, turn}
 
@@ -43,32 +47,32 @@ quiet {R} room f x = either (λ (t : Turn R). Quiet (numberOf (t .answer)) (t .r
 
 serial-heard : (h : serialHeard.Heard) (vs : List ℕ) (w : WRecord) → Quiet (numberOf (serial.turned h vs w .answer)) (serial.turned h vs w .reply)
 unfolding serial.turned
-serial-heard (serialHeard.the-variants.Refused a) vs w z l = refl
-serial-heard (serialHeard.the-variants.Broken s) vs w z l = absurd (omega arith)
-serial-heard (serialHeard.the-variants.NotUnderstood s) vs w z l = absurd (omega arith)
-serial-heard (serialHeard.the-variants.Understood s o) vs w z l = absurd (z refl)
+serial-heard (serialIs.Refused a) vs w z l = refl
+serial-heard (serialIs.Broken s) vs w z l = absurd (omega arith)
+serial-heard (serialIs.NotUnderstood s) vs w z l = absurd (omega arith)
+serial-heard (serialIs.Understood s o) vs w z l = absurd (z refl)
 
 frame-heard : (h : frameHeard.Heard) (s : List ℕ) (k : KRecord) → Quiet (numberOf (frames.decided k h .answer)) (frames.spelled s (frames.decided k h) .reply)
-unfolding frames.decided frames.bytesOf
-frame-heard (frameHeard.the-variants.Refused a) s k z l = refl
-frame-heard frameHeard.the-variants.NotUnderstood s k z l = absurd (omega arith)
-frame-heard (frameHeard.the-variants.Understood o) s k z l = absurd (z refl)
+unfolding frames.decided frameTexts.bytesOf
+frame-heard (frameIs.Refused a) s k z l = refl
+frame-heard frameIs.NotUnderstood s k z l = absurd (omega arith)
+frame-heard (frameIs.Understood o) s k z l = absurd (z refl)
 
 frame-quiet : (m : List ℕ) (k : KRecord) → Quiet (numberOf (frames.turnOf m k .answer)) (frames.turnOf m k .reply)
 unfolding frames.turnOf
-frame-quiet m k = frame-heard (framesAsks.heardOf m) _ k
+frame-quiet m k = frame-heard (frameAsks.heardOf m) _ k
 
 packet-heard : (m : List ℕ) (h : packetHeard.Heard) (w : WRecord) → Quiet (numberOf (packets.turned m h w .answer)) (packets.turned m h w .reply)
 unfolding packets.turned
-packet-heard m (packetHeard.the-variants.Refused a) w z l = refl
-packet-heard m packetHeard.the-variants.Broken w z l = absurd (omega arith)
-packet-heard m packetHeard.the-variants.NotUnderstood w z l = absurd (omega arith)
-packet-heard m (packetHeard.the-variants.Understood o) w z l = absurd (z refl)
+packet-heard m (packetIs.Refused a) w z l = refl
+packet-heard m packetIs.Broken w z l = absurd (omega arith)
+packet-heard m packetIs.NotUnderstood w z l = absurd (omega arith)
+packet-heard m (packetIs.Understood o) w z l = absurd (z refl)
 
 -- ---- a panel whose W record, or K record, is another: valid where that record is, or is not judged
 
-with-w : (p : Panel) (w : WRecord) → (okW (p .w) ≡ true → okW w ≡ true) → okPanel p ≡ true → okPanel (withW p w) ≡ true
-unfolding okPanel
+with-w : (p : Panel) (w : WRecord) → (okW (p .w) ≡ true → okW w ≡ true) → okFamily p ≡ true → okFamily (withW p w) ≡ true
+unfolding okFamily
 with-w p w f = go (eqb (p .family) familyW)
   where
     others : Bool
@@ -78,8 +82,8 @@ with-w p w f = go (eqb (p .family) familyW)
     go true e = and-both (okIds (p .group) (p .unit)) (okW w) (and-first (okIds (p .group) (p .unit)) (okW (p .w)) e) (f (and-second (okIds (p .group) (p .unit)) (okW (p .w)) e))
     go false e = e
 
-with-k : (p : Panel) (k : KRecord) → (okK (p .k) ≡ true → okK k ≡ true) → okPanel p ≡ true → okPanel (withK p k) ≡ true
-unfolding okPanel
+with-k : (p : Panel) (k : KRecord) → (okK (p .k) ≡ true → okK k ≡ true) → okFamily p ≡ true → okFamily (withK p k) ≡ true
+unfolding okFamily
 with-k p k f = go (eqb (p .family) familyW)
   where
     w-ok : Bool
@@ -94,57 +98,47 @@ with-k p k f = go (eqb (p .family) familyW)
 
 -- ---- the turn
 
+-- a panel that is called and numbered as it was: its family, its IDs and its spare bytes
+pub record Known (p q : Panel) : Type 0 where
+  pub family-kept : q .family ≡ p .family
+  pub group-kept : q .group ≡ p .group
+  pub unit-kept : q .unit ≡ p .unit
+  pub spare-kept : q .spare ≡ p .spare
+  pub name-kept : nameOf q ≡ nameOf p
+
+-- whatever its two records are
+known : (p : Panel) (w : WRecord) (k : KRecord) → Known p (withK (withW p w) k)
+unfolding nameOf
+known p w k = record { family-kept = refl; group-kept = refl; unit-kept = refl; spare-kept = refl; name-kept = refl }
+
 -- what a turn keeps of its panel: "unchanged" stands beside every answer but 0
 pub record Sound (p : Panel) (t : Turn Panel) : Type 0 where
-  pub family-kept : t .after .family ≡ p .family
-  pub group-kept : t .after .group ≡ p .group
-  pub unit-kept : t .after .unit ≡ p .unit
-  pub spare-kept : t .after .spare ≡ p .spare
-  pub name-kept : nameOf (t .after) ≡ nameOf p
+  pub known : Known p (t .after)
   pub ok-kept : okPanel p ≡ true → okPanel (t .after) ≡ true
   pub unmoved : (numberOf (t .answer) ≡ 0 → ⊥) → t .after ≡ p
   pub quiet : Quiet (numberOf (t .answer)) (t .reply)
 
--- a turn within a panel, where the other record put in keeps the panel's name and its validity
 within-w : (p : Panel) (t : Turn WRecord) → (okW (p .w) ≡ true → okW (t .after) ≡ true) → ((numberOf (t .answer) ≡ 0 → ⊥) → t .after ≡ p .w) → Quiet (numberOf (t .answer)) (t .reply) → Sound p (within (withW p) t)
-unfolding nameOf
-within-w p t v u q = record {
-  family-kept = refl;
-  group-kept = refl;
-  unit-kept = refl;
-  spare-kept = refl;
-  name-kept = refl;
-  ok-kept = with-w p (t .after) v;
-  unmoved = λ z. ap (withW p) (u z);
-  quiet = q;
-}
+unfolding okPanel
+within-w p t v u q = record { known = known p (t .after) (p .k); ok-kept = with-w p (t .after) v; unmoved = λ z. ap (withW p) (u z); quiet = q }
 
 within-k : (p : Panel) (t : Turn KRecord) → (okK (p .k) ≡ true → okK (t .after) ≡ true) → ((numberOf (t .answer) ≡ 0 → ⊥) → t .after ≡ p .k) → Quiet (numberOf (t .answer)) (t .reply) → Sound p (within (withK p) t)
-unfolding nameOf
-within-k p t v u q = record {
-  family-kept = refl;
-  group-kept = refl;
-  unit-kept = refl;
-  spare-kept = refl;
-  name-kept = refl;
-  ok-kept = with-k p (t .after) v;
-  unmoved = λ z. ap (withK p) (u z);
-  quiet = q;
-}
+unfolding okPanel
+within-k p t v u q = record { known = known p (p .w) (t .after); ok-kept = with-k p (t .after) v; unmoved = λ z. ap (withK p) (u z); quiet = q }
 
 -- whatever the message and the panel: for a panel of the other family too, whose own record the turn does not touch
 pub sound : (m : Message) (p : Panel) → Sound p (turn m p)
 unfolding turn
 sound (rs232c l m area) p =
-    within-w p _ (serialKept.stays-valid (length area) m (p .w)) (serialTold.refusal-leaves (length area) m (p .w))
-    (quiet (length area) (serial.turnOf m) (p .w) (serial-heard (serialForms.heardOf m) (serialForms.valuesOf m) (p .w)))
+    within-w p _ (serialValidity.stays-valid (length area) m (p .w)) (serialRefusals.refusal-leaves (length area) m (p .w))
+    (quiet (length area) (serial.turnOf m) (p .w) (serial-heard (serialAsks.heardOf m) (serialAsks.valuesOf m) (p .w)))
 sound (kjw l m area) p =
-    within-k p _ (frameKept.taken-valid (length area) m (p .k))
-    (λ z. frameKeptRefusals.taken-unchanged (length area) m (p .k) (λ e. z (ap numberOf e)))
+    within-k p _ (frameValidity.taken-valid (length area) m (p .k))
+    (λ z. frameRefusals.taken-unchanged (length area) m (p .k) (λ e. z (ap numberOf e)))
     (quiet (length area) (frames.turnOf m) (p .k) (frame-quiet m (p .k)))
 sound (tcp l m area) p =
-    within-w p _ (packetTold.stays-valid (length area) m (p .w)) (packetTold.refusal-leaves (length area) m (p .w))
-    (quiet (length area) (packets.turnOf m) (p .w) (packet-heard m (packetForms.heardOf m) (p .w)))
+    within-w p _ (packetRefusals.stays-valid (length area) m (p .w)) (packetRefusals.refusal-leaves (length area) m (p .w))
+    (quiet (length area) (packets.turnOf m) (p .w) (packet-heard m (packetAsks.heardOf m) (p .w)))
 sound (udp m) p =
-    within-w p _ (packetTold.turned-valid m (p .w)) (packetTold.turn-leaves m (packetForms.heardOf m) (p .w))
-    (packet-heard m (packetForms.heardOf m) (p .w))
+    within-w p _ (packetRefusals.turned-valid m (p .w)) (packetRefusals.turn-leaves m (packetAsks.heardOf m) (p .w))
+    (packet-heard m (packetAsks.heardOf m) (p .w))

@@ -6,25 +6,14 @@ use native.Mathlib.Omega.{arith}
 use lib.Dec.{eqb}
 use lib.ListN.{getD, take}
 use Rattle.laws.specs.Bytes.{ascii}
-use Rattle.laws.specs.Numbers.{number, inBytes}
 use Rattle.laws.proofs.Conditions.{choose}
 use Rattle.terms.specs.Answers.{numberOf}
 use Rattle.terms.specs.declared.Answer.the-variants.{Done}
-use Rattle.decimals.specs.Decimals.{isDigit, decimal, leadsZero, isNumeral, upTo, inDigits, numeral}
-use Rattle.turns.specs.Turns.{taken}
-use Rattle.panels.specs.Valid.{okShift, okGain, okBias, okInputs, okBalance, okW, okInput, okK, okIds, zeroIds, okPanel, share, distinct, valid}
-use Rattle.configure.specs.Configure.{askedAt, asked, configured}
 use Rattle.panels.specs.declared.DisplayBox.{DisplayBox}
-use Rattle.setting_words.specs.Names.{namedBy, ledBy}
-use Rattle.vmc.specs.Orders as words
-use Rattle.vmc_asks.specs.Asks.{readData, readSet, readGet, valueOrder}
-use Rattle.vmc_tells.specs.Texts.{textOf, setWords, valueWords}
-use Rattle.sdcp_asks.specs.Asks as asks
-use Rattle.sdcp.specs.Replies as packets
-use Rattle.steps.specs.Messages.{Message, nameOf, names}
-use Rattle.steps.specs.Addressing as address
-use Rattle.steps.specs.Step.{panelAt, door, turn, Back, back, Outcome, ownTurn, passed, refused, step}
+use Rattle.steps.specs.Messages.{Message, names}
+use Rattle.steps.specs.Step.{panelAt, door, Back, back, Outcome, ownTurn, passed, refused, step}
 use Rattle.steps.specs.Run.{run}
+use Rattle.steps.proofs.Opened.{opened}
 use Rattle.steps.proofs.Bench.{box, lent, areaOf, packet, onTcp, volume40}
 
 abbrev volume100 : Message
@@ -57,7 +46,7 @@ pub record Shown : Type 0 where
 
 -- computed
 pub shown : Shown
-unfolding configured asked askedAt valid okPanel okIds zeroIds okW okK okInput okInputs okBalance okGain okBias okShift share distinct nameOf names address.hasIds address.byTcp address.target address.addressed door turn step asks.isOurs asks.isBroken asks.heardOf number inBytes packets.packetOf packets.bytesOf packets.turned taken isDigit decimal inDigits numeral namedBy ledBy words.carried words.saysOf readData readSet readGet valueOrder upTo isNumeral leadsZero textOf setWords valueWords
+unfolding opened
 shown = record { obeys = refl; starts = refl; stands = refl; first-told = refl; other-told = refl; second-told = refl; written = refl }
 
 -- ---- what is offered for the step, and is the step, is none of the stand-ins

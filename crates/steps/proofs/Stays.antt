@@ -14,16 +14,14 @@ use Rattle.panels.specs.declared.WRecord.{WRecord}
 use Rattle.panels.specs.declared.DisplayBox.{DisplayBox}
 use Rattle.vmc.specs.Orders.{saysOf}
 use Rattle.vmc_asks.specs.declared.Order.the-variants.{Get}
-use Rattle.vmc.proofs.AskedBack as words
-use Rattle.vmc.proofs.Stays as wordsStays
-use Rattle.rs232c.proofs.AskedBack as serial
+use Rattle.vmc.proofs.AskedBack as wordBack
+use Rattle.vmc.proofs.Stays as wordStays
 use Rattle.rs232c.proofs.Stays as serialStays
-use Rattle.rs232c.specs.Replies as replies
-use Rattle.kjw.specs.Frames.{valueOf}
-use Rattle.kjw.specs.Rules as frames
-use Rattle.kjw_asks.specs.Asks as framesAsks
-use Rattle.kjw_asks.specs.declared.State.{State}
-use Rattle.kjw.proofs.Stays as states
+use Rattle.rs232c.specs.Replies as serial
+use Rattle.kjw_values.specs.Values.{valueOf}
+use Rattle.kjw_asks.specs.Asks as frameAsks
+use Rattle.kjw_sets.specs.declared.State.{State}
+use Rattle.kjw.proofs.Stays as frameStays
 use Rattle.sdcp_asks.specs.Asks.{heardOf}
 use Rattle.sdcp.specs.Replies as packets
 use Rattle.sdcp_asks.specs.declared.Heard.{Heard}
@@ -39,7 +37,7 @@ abbrev pub ordersIt : Heard → ℕ → Bool
 ordersIt (Refused a) j = false
 ordersIt Broken j = false
 ordersIt NotUnderstood j = false
-ordersIt (Understood o) j = words.touches o j
+ordersIt (Understood o) j = wordBack.touches o j
 
 -- a message that sets name j at the panels that it is addressed to: an SDCP packet with such an order
 abbrev pub sets : Message → ℕ → Bool
@@ -58,7 +56,7 @@ bears code (udp m) = false
 -- a message that sets a KJW state at the panel of its link
 abbrev pub setsState : Message → State → Bool
 setsState (rs232c l m area) s = false
-setsState (kjw l m area) s = states.setsState (framesAsks.heardOf m) s
+setsState (kjw l m area) s = frameStays.setsState (frameAsks.heardOf m) s
 setsState (tcp l m area) s = false
 setsState (udp m) s = false
 
@@ -77,7 +75,7 @@ turned-left m (Refused a) w = unmoved (Refused a) w
 turned-left m Broken w = unmoved Broken w
 turned-left m NotUnderstood w = unmoved NotUnderstood w
 turned-left m (Understood o) w =
-    let s = wordsStays.stays o w in
+    let s = wordStays.stays o w in
     record { told-stays = s .told-stays; inputs-stay = s .inputs-stay; balance-stays = s .balance-stays }
 
 packet-left : (room : ℕ) (m : List ℕ) (w : WRecord) → Left (heardOf m) w (taken room (packets.turnOf m) w .after)
@@ -92,7 +90,7 @@ turn-told : (m : Message) (p : Panel) (j : ℕ) → sets m j ≡ false → saysO
 unfolding turn
 turn-told (rs232c l m area) p j n =
     let s = serialStays.stays (length area) m (p .w) in
-    same-told j (p .w) (taken (length area) (replies.turnOf m) (p .w) .after) (s .settings-stay) (s .shifts-stay)
+    same-told j (p .w) (taken (length area) (serial.turnOf m) (p .w) .after) (s .settings-stay) (s .shifts-stay)
 turn-told (kjw l m area) p j n = refl
 turn-told (tcp l m area) p j n = packet-left (length area) m (p .w) .told-stays j n
 turn-told (udp m) p j n = turned-left m (heardOf m) (p .w) .told-stays j n
@@ -126,7 +124,7 @@ balance-stays b m i n = either (λ (p : Panel). p .w .balance ≡ panelAt i b .w
 turn-value : (m : Message) (p : Panel) (s : State) → setsState m s ≡ false → valueOf s (turn m p .after .k) ≡ valueOf s (p .k)
 unfolding turn
 turn-value (rs232c l m area) p s n = refl
-turn-value (kjw l m area) p s n = states.stays (length area) m s (p .k) n
+turn-value (kjw l m area) p s n = frameStays.stays (length area) m s (p .k) n
 turn-value (tcp l m area) p s n = refl
 turn-value (udp m) p s n = refl
 

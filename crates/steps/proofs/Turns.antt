@@ -1,42 +1,44 @@
--- What one place sees of a step: it takes its turn or stays as it was, since the step asks each place alone.
-use Prim.Native.Nat.{ℕ, zero, suc, _+_, _<_, _≤_}
-use mathlib.Core.Path.{_≡_, refl, sym, ap, _∙_}
+-- What one place sees of a step: its panel takes its turn where the message comes to it, or stays as it was, since the step asks
+-- each place alone.
+use Prim.Native.Nat.{ℕ, zero, suc, _-_, _<_, _≤_}
+use mathlib.Core.Path.{_≡_, refl, sym, ap, subst, _∙_}
 use mathlib.Core.Bool.{Bool, true, false, cond, _&&_}
 use mathlib.Core.List.{List, [], _∷_, map}
 use native.Mathlib.Omega.{arith}
-use lib.Dec.{eqb, ltb}
+use lib.Dec.{eqb}
 use lib.ListN.{length, getD, length-take, length-map}
-use borrow.Author.Tests.{eqb-true, ltb-false}
+use borrow.Author.Tests.{eqb-true}
 use Rattle.laws.specs.Runs.{each}
-use Rattle.laws.proofs.Conditions.{choose, false-true, passed as rung}
-use Rattle.laws.proofs.Runs.{each-at}
-use Rattle.terms.specs.Answers.{numberOf}
-use Rattle.terms.proofs.Answers.{number-tells}
-use Rattle.terms.specs.declared.Answer.{Answer}
-use Rattle.terms.specs.declared.Answer.the-variants.{Done, AreaTooSmall, NoSuchPanel}
-use Rattle.terms.specs.declared.GroupId.{GroupId}
-use Rattle.terms.specs.declared.UnitId.{UnitId}
+use Rattle.laws.proofs.Conditions.{choose, false-true, and-first, and-second}
+use Rattle.terms.specs.declared.Answer.the-variants.{Done}
 use Rattle.turns.specs.Turns.{Turn}
 use Rattle.panels.specs.Records.{pastEnd}
 use Rattle.panels.specs.Valid.{inUse, valid}
 use Rattle.panels.specs.declared.Panel.{Panel}
 use Rattle.panels.specs.declared.DisplayBox.{DisplayBox}
-use Rattle.sdcp_asks.specs.Asks.{heardOf, groupOf, unitOf}
+use Rattle.sdcp_asks.specs.Asks.{heardOf}
 use Rattle.sdcp.proofs.Refusals.{turned-answer}
-use Rattle.steps.specs.Messages.{Message, rs232c, kjw, tcp, udp, Name, nobody, nameOf, names, onLink, isW, isK}
-use Rattle.steps.specs.Addressing.{hasIds, isId, isPair, pairNumber, byTcp, target, isCalled, addressed}
-use Rattle.steps.specs.Step.{ifOpen, door, turn, backOn, back, Outcome, panelAt, ownTurn, answerTo, passed, refused, through, step}
+use Rattle.steps.specs.Messages.{Message, Name, nobody, nameOf, names}
+use Rattle.steps.specs.Addressing.{target, addressed}
+use Rattle.steps.specs.Step.{door, turn, back, Outcome, panelAt, ownTurn, answerTo, passed, refused, step}
+use Rattle.steps.proofs.Door.{Lends, by-rs232c, by-kjw, by-tcp, by-way, opens, opens-done, done-opens, by-door, speaks, nobody-speaks, door-passed, its-family}
 
 -- a message comes to the panel at place i: it passes the checks before the panels, and is addressed to that place
 pub record Reaches (b : DisplayBox) (m : Message) (i : ℕ) : Type 0 where
   pub passes : door (names b) m ≡ Done
   pub meant : addressed (names b) m i ≡ true
 
--- what the panel at place i then does, and what goes back for it
-pub record Taken (b : DisplayBox) (m : Message) (i : ℕ) : Type 0 where
-  pub panel-is : panelAt i (step b m .box) ≡ turn m (panelAt i b) .after
-  pub answer-is : step b m .answer ≡ turn m (panelAt i b) .answer
-  pub back-is : step b m .back ≡ back m (turn m (panelAt i b) .reply)
+-- "1 reply area under 512 bytes": with a link, such a message has room for its reply
+pub has-room : {b : DisplayBox} {m : Message} {i l : ℕ} {area : List ℕ} → Lends l area m → Reaches b m i → 512 ≤ length area
+has-room {b} k r = door-passed (names b) k (r .passes) .room
+
+-- an answer of 0 has passed the checks before the panels
+pub done-passes : (b : DisplayBox) (m : Message) → step b m .answer ≡ Done → door (names b) m ≡ Done
+done-passes b m = by-door (λ (o : Outcome). o .answer ≡ Done → door (names b) m ≡ Done) b m (λ e d. opens-done (names b) m e) (λ e d. d)
+
+-- a message that is answered 0 comes to each panel that it is addressed to
+pub done-reaches : (b : DisplayBox) (m : Message) (i : ℕ) → step b m .answer ≡ Done → addressed (names b) m i ≡ true → Reaches b m i
+done-reaches b m i d a = record { passes = done-passes b m d; meant = a }
 
 -- ---- a place that a message comes to is one of the box
 
@@ -44,68 +46,6 @@ inside : (ns : List Name) (i : ℕ) (f : Name → Bool) → f nobody ≡ false �
 inside [] i f n e = absurd (false-true (sym n ∙ e))
 inside (x ∷ ns) zero f n e = omega arith
 inside (x ∷ ns) (suc i) f n e = let h = inside ns i f n e in omega arith
-
-number-inside : (g : GroupId) (u : UnitId) (n : ℕ) (ns : List Name) (i : ℕ) → pairNumber g u (suc n) ns ≡ suc i → i < n + length ns
-unfolding pairNumber
-number-inside g u n [] i e = absurd (omega arith)
-number-inside g u n (x ∷ ns) i e = go (isPair g u x) e (number-inside g u (suc n) ns i)
-  where
-    go : (c : Bool) → cond c (suc n) (pairNumber g u (suc (suc n)) ns) ≡ suc i → (pairNumber g u (suc (suc n)) ns ≡ suc i → i < suc n + length ns) → i < n + suc (length ns)
-    go true e h = omega arith
-    go false e h = let k = h e in omega arith
-
-link-inside : (ns : List Name) (l i : ℕ) (f : Name → Bool) → f nobody ≡ false → f (onLink ns l) ≡ true → l ≡ suc i → i < length ns
-link-inside ns zero i f n e q = absurd (omega arith)
-link-inside ns (suc j) i f n e q = let h = inside ns j f n e in omega arith
-
--- with a link of a W panel, both ways of addressing by TCP
-tcp-inside : (ns : List Name) (l i : ℕ) (m : List ℕ) → isW (onLink ns l) ≡ true → byTcp ns l m ≡ suc i → i < length ns
-unfolding byTcp
-tcp-inside ns l i m w = go (hasIds m) (eqb (groupOf m) 0 && eqb (unitOf m) 0) (isId (groupOf m) && isId (unitOf m))
-  where
-    found : ℕ
-    found = pairNumber (record { 0 = groupOf m }) (record { 0 = unitOf m }) 1 ns
-
-    go : (x y z : Bool) → cond x (cond y l (cond z found 0)) 0 ≡ suc i → i < length ns
-    go false y z e = absurd (omega arith)
-    go true true z e = link-inside ns l i isW refl w e
-    go true false true e = let h = number-inside (record { 0 = groupOf m }) (record { 0 = unitOf m }) 0 ns i e in omega arith
-    go true false false e = absurd (omega arith)
-
--- "1 reply area under 512 bytes", "2 no panel with that link number": where the rest is reached, neither applies
-pub record Lent (area : List ℕ) (fits : Bool) : Type 0 where
-  pub room : 512 ≤ length area
-  pub link-fits : fits ≡ true
-
-lent-passed : (area : List ℕ) (fits : Bool) (rest : Answer) → ifOpen area fits rest ≡ Done → Lent area fits
-lent-passed area fits rest e =
-    let t = rung (ltb (length area) 512) AreaTooSmall (cond fits rest NoSuchPanel) Done (λ q. let z : _≡_ {A = ℕ} 1 0 = ap numberOf q in omega arith) e in
-    record { room = ltb-false (length area) 512 (t .0); link-fits = go fits (t .1) }
-  where
-    go : (f : Bool) → cond f rest NoSuchPanel ≡ Done → f ≡ true
-    go true q = refl
-    go false q = absurd (let z : _≡_ {A = ℕ} 2 0 = ap numberOf q in omega arith)
-
--- a message with a link that comes to a panel: its area has room, and its link is of the family
-abbrev pub Door : List Name → Message → Type 0
-Door ns (rs232c l m area) = Lent area (isW (onLink ns l))
-Door ns (kjw l m area) = Lent area (isK (onLink ns l))
-Door ns (tcp l m area) = Lent area (isW (onLink ns l))
-Door ns (udp m) = Unit {0}
-
-pub door-passed : (ns : List Name) (m : Message) → door ns m ≡ Done → Door ns m
-unfolding door
-door-passed ns (rs232c l m area) e = lent-passed area (isW (onLink ns l)) Done e
-door-passed ns (kjw l m area) e = lent-passed area (isK (onLink ns l)) Done e
-door-passed ns (tcp l m area) e = lent-passed area (isW (onLink ns l)) _ e
-door-passed ns (udp m) e = tt
-
-named : (ns : List Name) (m : Message) (i : ℕ) → Door ns m → addressed ns m i ≡ true → i < length ns
-unfolding addressed target isCalled
-named ns (rs232c l m area) i d a = link-inside ns l i isW refl (d .link-fits) (eqb-true l (suc i) a)
-named ns (kjw l m area) i d a = link-inside ns l i isK refl (d .link-fits) (eqb-true l (suc i) a)
-named ns (tcp l m area) i d a = tcp-inside ns l i m (d .link-fits) (eqb-true (byTcp ns l m) (suc i) a)
-named ns (udp m) i d a = inside ns i (isCalled m) refl a
 
 names-length : (b : DisplayBox) → length (names b) ≤ length (b .panels)
 unfolding names
@@ -117,88 +57,96 @@ names-length b = go (valid b)
 
 pub reaches-inside : {b : DisplayBox} {m : Message} {i : ℕ} → Reaches b m i → i < length (b .panels)
 reaches-inside {b} {m} {i} r =
-    let h = named (names b) m i (door-passed (names b) m (r .passes)) (r .meant) in
+    let h = inside (names b) i (speaks m) (nobody-speaks m) (its-family (names b) m i (r .passes) (r .meant)) in
     let k = names-length b in
     omega arith
 
--- ---- the turn is taken
+-- ---- the turn is taken, or the panel stays
 
--- an answer of 0 has passed the checks before the panels
-pub done-passes : (b : DisplayBox) (m : Message) → step b m .answer ≡ Done → door (names b) m ≡ Done
-unfolding step
-done-passes b m e = number-tells (door (names b) m) Done (go (door (names b) m) (eqb (numberOf (door (names b) m)) 0) refl e)
+each-place : (called : ℕ → Bool) (f : Panel → Panel) (ps : List Panel) (i : ℕ) → (called i ≡ true → i < length ps) → getD (each called f ps) i pastEnd ≡ cond (called i) (f (getD ps i pastEnd)) (getD ps i pastEnd)
+each-place called f [] i h = go (called i) h
   where
-    go : (a : Answer) (t : Bool) → eqb (numberOf a) 0 ≡ t → cond t (passed (names b) b m) (refused b m a) .answer ≡ Done → numberOf a ≡ 0
-    go a true q d = eqb-true (numberOf a) 0 q
-    go a false q d = ap numberOf d
+    go : (c : Bool) → (c ≡ true → i < 0) → pastEnd ≡ cond c (f pastEnd) pastEnd
+    go true k = absurd (let z = k refl in omega arith)
+    go false k = refl
+each-place called f (p ∷ ps) zero h = refl
+each-place called f (p ∷ ps) (suc i) h = each-place (λ (j : ℕ). called (suc j)) f ps i (λ e. let k = h e in omega arith)
 
--- a message that is answered 0 comes to each panel that it is addressed to
-pub done-reaches : (b : DisplayBox) (m : Message) (i : ℕ) → step b m .answer ≡ Done → addressed (names b) m i ≡ true → Reaches b m i
-done-reaches b m i d a = record { passes = done-passes b m d; meant = a }
-
--- while the names are the same, a message comes to the same panels
-pub again : {b c : DisplayBox} {m : Message} {i : ℕ} → names c ≡ names b → Reaches b m i → Reaches c m i
-again {b} {c} {m} {i} e r = record { passes = ap (λ (ns : List Name). door ns m) e ∙ r .passes; meant = ap (λ (ns : List Name). addressed ns m i) e ∙ r .meant }
-
--- by UDP all panels that are called have the same answer
-own-turn : (ns : List Name) (b : DisplayBox) (m : Message) (i : ℕ) → eqb (target ns m) (suc i) ≡ true → ownTurn ns b m ≡ turn m (panelAt i b)
-own-turn ns b m i a = let e = eqb-true (target ns m) (suc i) a in ap (λ (j : ℕ). turn m (panelAt j b)) (omega arith)
-
-own-answer : (ns : List Name) (b : DisplayBox) (m : Message) (i : ℕ) → addressed ns m i ≡ true → answerTo ns b m ≡ turn m (panelAt i b) .answer
-unfolding addressed turn
-own-answer ns b (rs232c l m area) i a = ap (λ (t : Turn Panel). t .answer) (own-turn ns b (rs232c l m area) i a)
-own-answer ns b (kjw l m area) i a = ap (λ (t : Turn Panel). t .answer) (own-turn ns b (kjw l m area) i a)
-own-answer ns b (tcp l m area) i a = ap (λ (t : Turn Panel). t .answer) (own-turn ns b (tcp l m area) i a)
-own-answer ns b (udp m) i a = sym (turned-answer m (heardOf m) (panelAt i b .w))
-
-own-back : (ns : List Name) (b : DisplayBox) (m : Message) (i : ℕ) → addressed ns m i ≡ true → back m (ownTurn ns b m .reply) ≡ back m (turn m (panelAt i b) .reply)
-unfolding addressed
-own-back ns b (rs232c l m area) i a = ap (λ (t : Turn Panel). backOn area (t .reply)) (own-turn ns b (rs232c l m area) i a)
-own-back ns b (kjw l m area) i a = ap (λ (t : Turn Panel). backOn area (t .reply)) (own-turn ns b (kjw l m area) i a)
-own-back ns b (tcp l m area) i a = ap (λ (t : Turn Panel). backOn area (t .reply)) (own-turn ns b (tcp l m area) i a)
-own-back ns b (udp m) i a = refl
-
-step-passed : (b : DisplayBox) (m : Message) → door (names b) m ≡ Done → step b m ≡ passed (names b) b m
+-- the panel at a place after a step: its turn where the door is passed and it is addressed, else the panel as it was
+pub at-step : (b : DisplayBox) (m : Message) (i : ℕ) → panelAt i (step b m .box) ≡ cond (opens (names b) m && addressed (names b) m i) (turn m (panelAt i b) .after) (panelAt i b)
 unfolding step
-step-passed b m e = rw e
-
--- the panel that a message comes to takes its turn: its record afterwards, the answer and what goes back are those of that turn
-pub takes : {b : DisplayBox} {m : Message} {i : ℕ} → Reaches b m i → Taken b m i
-takes {b} {m} {i} r = record {
-  panel-is =
-      ap (λ (o : Outcome). panelAt i (o .box)) e
-      ∙ each-at (addressed (names b) m) (λ (p : Panel). turn m p .after) (b .panels) i pastEnd (reaches-inside r)
-      ∙ ap (λ (c : Bool). cond c (turn m (panelAt i b) .after) (panelAt i b)) (r .meant);
-  answer-is = ap (λ (o : Outcome). o .answer) e ∙ own-answer (names b) b m i (r .meant);
-  back-is = ap (λ (o : Outcome). o .back) e ∙ own-back (names b) b m i (r .meant);
-}
+at-step b m i = go (opens (names b) m) refl
   where
-    e : step b m ≡ passed (names b) b m
-    e = step-passed b m (r .passes)
+    go : (o : Bool) → opens (names b) m ≡ o → panelAt i (cond o (passed (names b) b m) (refused b m (door (names b) m)) .box) ≡ cond (o && addressed (names b) m i) (turn m (panelAt i b) .after) (panelAt i b)
+    go true o =
+        each-place (addressed (names b) m) (λ (p : Panel). turn m p .after) (b .panels) i
+        (λ a. reaches-inside (record { passes = opens-done (names b) m o; meant = a }))
+    go false o = refl
 
--- ---- or it stays
+-- what holds of a panel, and of its turn where the message comes to it, holds of it after any step
+pub at-place : (P : Panel → Type 0) (b : DisplayBox) (m : Message) (i : ℕ) → P (panelAt i b) → (Reaches b m i → P (turn m (panelAt i b) .after)) → P (panelAt i (step b m .box))
+at-place P b m i p q =
+    subst P (sym (at-step b m i))
+    (choose P (opens (names b) m && addressed (names b) m i) (turn m (panelAt i b) .after) (panelAt i b)
+    (λ e. q (record { passes = opens-done (names b) m (and-first (opens (names b) m) (addressed (names b) m i) e); meant = and-second (opens (names b) m) (addressed (names b) m i) e }))
+    (λ e. p))
 
-module _ (P : Panel → Type 0) where
-  each-either : (called : ℕ → Bool) (f : Panel → Panel) (l : List Panel) (i : ℕ) (d : Panel) → P (getD l i d) → P (f (getD l i d)) → P (getD (each called f l) i d)
-  each-either called f [] i d p q = p
-  each-either called f (x ∷ l) zero d p q = choose P (called 0) (f x) x (λ e. q) (λ e. p)
-  each-either called f (x ∷ l) (suc i) d p q = each-either (λ (j : ℕ). called (suc j)) f l i d p q
-
-  -- what holds of a panel and of its turn holds of it after any step
-  pub either : (b : DisplayBox) (m : Message) (i : ℕ) → P (panelAt i b) → P (turn m (panelAt i b) .after) → P (panelAt i (step b m .box))
-  unfolding step
-  either b m i p q =
-      choose (λ (o : Outcome). P (panelAt i (o .box))) (eqb (numberOf (door (names b) m)) 0) (passed (names b) b m) (refused b m (door (names b) m))
-      (λ e. each-either (addressed (names b) m) (λ (x : Panel). turn m x .after) (b .panels) i pastEnd p q) (λ e. p)
-
-each-left : (called : ℕ → Bool) (f : Panel → Panel) (l : List Panel) (i : ℕ) (d : Panel) → called i ≡ false → getD (each called f l) i d ≡ getD l i d
-each-left called f [] i d n = refl
-each-left called f (x ∷ l) zero d n = rw n
-each-left called f (x ∷ l) (suc i) d n = each-left (λ (j : ℕ). called (suc j)) f l i d n
+pub either : (P : Panel → Type 0) (b : DisplayBox) (m : Message) (i : ℕ) → P (panelAt i b) → P (turn m (panelAt i b) .after) → P (panelAt i (step b m .box))
+either P b m i p q = at-place P b m i p (λ r. q)
 
 -- a message that is not addressed to place i leaves its panel as it is
 pub left : (b : DisplayBox) (m : Message) (i : ℕ) → addressed (names b) m i ≡ false → panelAt i (step b m .box) ≡ panelAt i b
+left b m i n = at-place (λ (p : Panel). p ≡ panelAt i b) b m i refl (λ r. absurd (false-true (sym n ∙ r .meant)))
+
+-- the panel that a message comes to takes its turn
+pub takes : {b : DisplayBox} {m : Message} {i : ℕ} → Reaches b m i → panelAt i (step b m .box) ≡ turn m (panelAt i b) .after
+takes {b} {m} {i} r = at-step b m i ∙ rw (done-opens (names b) m (r .passes), r .meant)
+
+-- ---- what is answered, and what goes back
+
+-- the turn that a message with a link is answered with is that of the panel addressed
+pub own-turn : {l : ℕ} {area : List ℕ} {m : Message} (ns : List Name) (b : DisplayBox) (i : ℕ) → Lends l area m → addressed ns m i ≡ true → ownTurn ns b m ≡ turn m (panelAt i b)
+unfolding addressed
+own-turn {l} {area} {m} ns b i k a = ap (λ (j : ℕ). turn m (panelAt j b)) (place k a)
+  where
+    less : (t : ℕ) → eqb t (suc i) ≡ true → t - 1 ≡ i
+    less t e = let q = eqb-true t (suc i) e in omega arith
+
+    place : {n : Message} → Lends l area n → addressed ns n i ≡ true → target ns n - 1 ≡ i
+    place {n} (by-rs232c x) e = less (target ns n) e
+    place {n} (by-kjw x) e = less (target ns n) e
+    place {n} (by-tcp x) e = less (target ns n) e
+
+-- a message with a link has the answer and the reply of the one panel that it comes to
+pub record Told (b : DisplayBox) (m : Message) (i : ℕ) : Type 0 where
+  pub answer-is : step b m .answer ≡ turn m (panelAt i b) .answer
+  pub back-is : step b m .back ≡ back m (turn m (panelAt i b) .reply)
+
+link-answer : {l : ℕ} {area : List ℕ} {m : Message} (ns : List Name) (b : DisplayBox) → Lends l area m → answerTo ns b m ≡ ownTurn ns b m .answer
+link-answer ns b (by-rs232c m) = refl
+link-answer ns b (by-kjw m) = refl
+link-answer ns b (by-tcp m) = refl
+
+pub told : {b : DisplayBox} {m : Message} {i l : ℕ} {area : List ℕ} → Lends l area m → Reaches b m i → Told b m i
 unfolding step
-left b m i n =
-    choose (λ (o : Outcome). panelAt i (o .box) ≡ panelAt i b) (eqb (numberOf (door (names b) m)) 0) (passed (names b) b m) (refused b m (door (names b) m))
-    (λ e. each-left (addressed (names b) m) (λ (x : Panel). turn m x .after) (b .panels) i pastEnd n) (λ e. refl)
+told {b} {m} {i} k r = record {
+  answer-is = ap (λ (o : Outcome). o .answer) e ∙ link-answer (names b) b k ∙ ap (λ (t : Turn Panel). t .answer) (own-turn (names b) b i k (r .meant));
+  back-is = ap (λ (o : Outcome). o .back) e ∙ ap (λ (t : Turn Panel). back m (t .reply)) (own-turn (names b) b i k (r .meant));
+}
+  where
+    e : step b m ≡ passed (names b) b m
+    e = rw (r .passes)
+
+-- the answer given is that of each panel addressed: by UDP it is that of what was heard, the same for all
+pub own-answer : (ns : List Name) (b : DisplayBox) (m : Message) (i : ℕ) → addressed ns m i ≡ true → answerTo ns b m ≡ turn m (panelAt i b) .answer
+unfolding turn
+own-answer ns b m i =
+    by-way (λ (x : Message). addressed ns x i ≡ true → answerTo ns b x ≡ turn x (panelAt i b) .answer)
+    (λ l area x k a. link-answer ns b k ∙ ap (λ (t : Turn Panel). t .answer) (own-turn ns b i k a))
+    (λ x a. sym (turned-answer x (heardOf x) (panelAt i b .w))) m
+
+-- and what goes back is its reply: by UDP nothing does
+pub own-back : (ns : List Name) (b : DisplayBox) (m : Message) (i : ℕ) → addressed ns m i ≡ true → back m (ownTurn ns b m .reply) ≡ back m (turn m (panelAt i b) .reply)
+own-back ns b m i =
+    by-way (λ (x : Message). addressed ns x i ≡ true → back x (ownTurn ns b x .reply) ≡ back x (turn x (panelAt i b) .reply))
+    (λ l area x k a. ap (λ (t : Turn Panel). back x (t .reply)) (own-turn ns b i k a)) (λ x a. refl) m

@@ -20,14 +20,12 @@ use Rattle.steps.specs.Messages.{Message, rs232c, kjw, tcp, udp, Name, n
 use Rattle.steps.specs.Addressing.{addressed}
 use Rattle.steps.specs.Step.{turn, Outcome, panelAt, withPanels, step}
 use Rattle.steps.proofs.Sound.{sound}
-use Rattle.steps.proofs.Door.{opens, shut, speaks, nobody-speaks, its-family, by-door, at-step}
+use Rattle.steps.proofs.Door.{opens, done-opens, shut, speaks, nobody-speaks, its-family, by-door}
+use Rattle.steps.proofs.Turns.{Reaches, reaches-inside, at-place}
 
--- ---- the number of panels and of places
+-- ---- the number of places
 
--- the box holds as many panels as before, in as many places, "numbered from 1 in the order given"
-pub count-kept : (b : DisplayBox) (m : Message) → step b m .box .count ≡ b .count
-count-kept b m = by-door (λ (o : Outcome). o .box .count ≡ b .count) b m (λ e. refl) (λ e. refl)
-
+-- the box has as many places as before
 pub places-kept : (b : DisplayBox) (m : Message) → length (step b m .box .panels) ≡ length (b .panels)
 places-kept b m = by-door (λ (o : Outcome). length (o .box .panels) ≡ length (b .panels)) b m (λ e. each-length (addressed (names b) m) (λ (p : Panel). turn m p .after) (b .panels)) (λ e. refl)
 
@@ -53,11 +51,11 @@ module _ (m : Message) where
 
   apart-left : (p q : Panel) → apart (after-turn p) q ≡ apart p q
   unfolding share
-  apart-left p q = rw (sound m p .family-kept, sound m p .group-kept, sound m p .unit-kept)
+  apart-left p q = rw (sound m p .known .family-kept, sound m p .known .group-kept, sound m p .known .unit-kept)
 
   apart-right : (p q : Panel) → apart p (after-turn q) ≡ apart p q
   unfolding share
-  apart-right p q = rw (sound m q .family-kept, sound m q .group-kept, sound m q .unit-kept)
+  apart-right p q = rw (sound m q .known .family-kept, sound m q .known .group-kept, sound m q .known .unit-kept)
 
   turns-apart : (called : ℕ → Bool) (p p′ : Panel) (ps : List Panel) → ((q : Panel) → apart p′ q ≡ apart p q) → every (apart p′) (each called after-turn ps) ≡ every (apart p) ps
   turns-apart called p p′ [] e = refl
@@ -104,7 +102,7 @@ bad-kept b m v = by-door (λ (o : Outcome). o .box ≡ b) b m (λ e. absurd (fal
 in-use-named : (b : DisplayBox) (m : Message) → map nameOf (inUse (step b m .box)) ≡ map nameOf (inUse b)
 in-use-named b m =
     by-door (λ (o : Outcome). map nameOf (inUse (o .box)) ≡ map nameOf (inUse b)) b m
-    (λ e. ap (map nameOf) (each-take (addressed (names b) m) (after-turn m) (b .count) (b .panels)) ∙ each-map nameOf (addressed (names b) m) (after-turn m) (inUse b) (λ p. sound m p .name-kept))
+    (λ e. ap (map nameOf) (each-take (addressed (names b) m) (after-turn m) (b .count) (b .panels)) ∙ each-map nameOf (addressed (names b) m) (after-turn m) (inUse b) (λ p. sound m p .known .name-kept))
     (λ e. refl)
 
 -- families and IDs stay, and with them whom each message addresses
@@ -136,35 +134,25 @@ in-use-name b i v k h = ap (λ (ns : List Name). getD ns i nobody) (valid-names 
 pub unused-name : (b : DisplayBox) (i : ℕ) → valid b ≡ true → b .count ≤ i → getD (names b) i nobody ≡ nobody
 unused-name b i v k = ap (λ (ns : List Name). getD ns i nobody) (valid-names b v) ∙ name-behind (b .count) (b .panels) i k
 
--- a place that takes a turn holds a panel in use, of the message's family
-takes-turn : (b : DisplayBox) (m : Message) (i : ℕ) → i < length (b .panels) → (opens (names b) m && addressed (names b) m i) ≡ true → (i < b .count) × (speaks m (nameOf (panelAt i b)) ≡ true)
-takes-turn b m i h e = judge (valid b) refl
+-- a place that a message comes to holds a panel in use, of the message's family
+pub its-own : {b : DisplayBox} {m : Message} {i : ℕ} → Reaches b m i → (i < b .count) × (speaks m (nameOf (panelAt i b)) ≡ true)
+its-own {b} {m} {i} r = judge (valid b) refl
   where
-    o : opens (names b) m ≡ true
-    o = and-first (opens (names b) m) (addressed (names b) m i) e
-
     spoken : speaks m (getD (names b) i nobody) ≡ true
-    spoken = its-family (names b) m i o (and-second (opens (names b) m) (addressed (names b) m i) e)
+    spoken = its-family (names b) m i (r .passes) (r .meant)
 
     place : (t : Bool) → ltb i (b .count) ≡ t → valid b ≡ true → (i < b .count) × (speaks m (nameOf (panelAt i b)) ≡ true)
-    place true t v = let k = ltb-true i (b .count) t in (k, sym (ap (speaks m) (in-use-name b i v k h)) ∙ spoken)
+    place true t v = let k = ltb-true i (b .count) t in (k, sym (ap (speaks m) (in-use-name b i v k (reaches-inside r))) ∙ spoken)
     place false t v =
         absurd (false-true (sym (nobody-speaks m) ∙ sym (ap (speaks m) (unused-name b i v (ltb-false i (b .count) t))) ∙ spoken))
 
     judge : (v : Bool) → valid b ≡ v → (i < b .count) × (speaks m (nameOf (panelAt i b)) ≡ true)
     judge true v = place (ltb i (b .count)) refl v
-    judge false v = absurd (false-true (sym (bad-shut b m v) ∙ o))
-
--- what holds of a panel as it was, and of its turn where it is in use and of the message's family, holds of it after a step
-by-place : (P : Panel → Type 0) (b : DisplayBox) (m : Message) (i : ℕ) → i < length (b .panels) → P (panelAt i b) → (i < b .count → speaks m (nameOf (panelAt i b)) ≡ true → P (turn m (panelAt i b) .after)) → P (panelAt i (step b m .box))
-by-place P b m i h stay move =
-    rw (at-step b m i h)
-    (choose P (opens (names b) m && addressed (names b) m i) (turn m (panelAt i b) .after) (panelAt i b)
-    (λ e. let t = takes-turn b m i h e in move (t .0) (t .1)) (λ e. stay))
+    judge false v = absurd (false-true (sym (bad-shut b m v) ∙ done-opens (names b) m (r .passes)))
 
 -- the places behind the panels in use are given back as they came
-pub unused-kept : (b : DisplayBox) (m : Message) (i : ℕ) → i < length (b .panels) → b .count ≤ i → panelAt i (step b m .box) ≡ panelAt i b
-unused-kept b m i h k = by-place (λ (p : Panel). p ≡ panelAt i b) b m i h refl (λ l s. absurd (omega arith))
+pub unused-kept : (b : DisplayBox) (m : Message) (i : ℕ) → b .count ≤ i → panelAt i (step b m .box) ≡ panelAt i b
+unused-kept b m i k = at-place (λ (p : Panel). p ≡ panelAt i b) b m i refl (λ r. absurd (let h = its-own r .0 in omega arith))
 
 w-turn : (m : Message) (p : Panel) → p .family ≡ familyW → speaks m (nameOf p) ≡ true → turn m p .after .k ≡ p .k
 unfolding turn nameOf
@@ -174,8 +162,8 @@ w-turn (tcp l m area) p f s = refl
 w-turn (udp m) p f s = refl
 
 -- "family W (speaks RS-232C and SDCP with VMC text) or family K (speaks KJW frames)": the other family's record of a panel stays
-pub w-keeps-k : (b : DisplayBox) (m : Message) (i : ℕ) → i < length (b .panels) → panelAt i b .family ≡ familyW → panelAt i (step b m .box) .k ≡ panelAt i b .k
-w-keeps-k b m i h f = by-place (λ (p : Panel). p .k ≡ panelAt i b .k) b m i h refl (λ l s. w-turn m (panelAt i b) f s)
+pub w-keeps-k : (b : DisplayBox) (m : Message) (i : ℕ) → panelAt i b .family ≡ familyW → panelAt i (step b m .box) .k ≡ panelAt i b .k
+w-keeps-k b m i f = at-place (λ (p : Panel). p .k ≡ panelAt i b .k) b m i refl (λ r. w-turn m (panelAt i b) f (its-own r .1))
 
 no-w : (p : Panel) → p .family ≡ familyK → isW (nameOf p) ≡ false
 unfolding nameOf
@@ -188,5 +176,5 @@ k-turn (kjw l m area) p f s = refl
 k-turn (tcp l m area) p f s = absurd (false-true (sym (no-w p f) ∙ s))
 k-turn (udp m) p f s = absurd (false-true (sym (no-w p f) ∙ s))
 
-pub k-keeps-w : (b : DisplayBox) (m : Message) (i : ℕ) → i < length (b .panels) → panelAt i b .family ≡ familyK → panelAt i (step b m .box) .w ≡ panelAt i b .w
-k-keeps-w b m i h f = by-place (λ (p : Panel). p .w ≡ panelAt i b .w) b m i h refl (λ l s. k-turn m (panelAt i b) f s)
+pub k-keeps-w : (b : DisplayBox) (m : Message) (i : ℕ) → panelAt i b .family ≡ familyK → panelAt i (step b m .box) .w ≡ panelAt i b .w
+k-keeps-w b m i f = at-place (λ (p : Panel). p .w ≡ panelAt i b .w) b m i refl (λ r. k-turn m (panelAt i b) f (its-own r .1))

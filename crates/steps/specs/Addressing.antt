@@ -1,5 +1,4 @@
--- Document 01, "Addressing": whom a message addresses. The panels' families and IDs, the way in and bytes 0 to 7 decide it, and
--- nothing else.
+-- Document 01, "Addressing": whom a message addresses. "The header and way in decide this; nothing after byte 7 does."
 use Prim.Native.Nat.{ℕ, suc}
 use mathlib.Core.Bool.{Bool, false, cond, _&&_, _||_}
 use mathlib.Core.List.{List, [], _∷_}
@@ -17,7 +16,7 @@ hasIds m = leb 8 (length m) && isOurs m
 abbrev pub isId : ℕ → Bool
 isId n = leb 1 n && leb n 99
 
--- a group is compared with a group and a unit with a unit
+-- "A group ID is never taken for a unit ID, though each is one byte": like is compared with like
 unfoldable pub isPair : GroupId → UnitId → Name → Bool
 isPair g u nobody = false
 isPair g u (aW g′ u′) = eqb (g .0) (g′ .0) && eqb (u .0) (u′ .0)

@@ -12,14 +12,14 @@ use Rattle.panels.specs.declared.Panel.{Panel}
 use Rattle.panels.specs.declared.DisplayBox.{DisplayBox}
 
 -- "A message is a byte string with its way in: RS-232C port of panel p, KJW link of panel p, SDCP by TCP on the link of panel
--- p, or SDCP by UDP. All but UDP come with a lent reply area."
+-- p, or SDCP by UDP. All but UDP come with a lent reply area. Each message is whole here."
 pub data Message : Type 0 where
   rs232c : ℕ → List ℕ → List ℕ → Message
   kjw : ℕ → List ℕ → List ℕ → Message
   tcp : ℕ → List ℕ → List ℕ → Message
   udp : List ℕ → Message
 
--- what a panel is called by: its family, and a W panel's group and unit
+-- what a panel is called by: "Each panel is of family W [..] or family K [..]. A W panel has a group ID [..] and a unit ID [..]"
 pub data Name : Type 0 where
   nobody : Name
   aW : GroupId → UnitId → Name

@@ -1,4 +1,5 @@
--- Demand 3's words: a run of the step, the messages addressed to one panel, and the replies to these.
+-- Demand 3's words: a run of the step, the messages addressed to one panel, and the replies to these. "Some of them would pass demand 3
+-- alone, so demand 3 is stated over demand 2's definition of a run."
 use Prim.Native.Nat.{ℕ}
 use mathlib.Core.List.{List}
 use Rattle.laws.specs.Runs.{runBy, keptBy, heardBy}

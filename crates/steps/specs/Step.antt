@@ -1,7 +1,7 @@
 -- Document 01, "Answer numbers" and the forms: the one step, what a message does to a box.
 use Prim.Native.Nat.{ℕ, _-_}
 use mathlib.Core.Bool.{Bool, cond}
-use mathlib.Core.List.{List, []}
+use mathlib.Core.List.{List, [], _∷_}
 use lib.Dec.{eqb, ltb}
 use lib.ListN.{length, getD}
 use Rattle.laws.specs.Bytes.{sent}
@@ -16,7 +16,7 @@ use Rattle.panels.specs.declared.WRecord.{WRecord}
 use Rattle.panels.specs.declared.KRecord.{KRecord}
 use Rattle.panels.specs.declared.DisplayBox.{DisplayBox}
 use Rattle.rs232c.specs.Replies as serial
-use Rattle.kjw.specs.Rules as frames
+use Rattle.kjw.specs.Replies as frames
 use Rattle.sdcp_asks.specs.Asks.{heardOf}
 use Rattle.sdcp.specs.Replies as packets
 use Rattle.steps.specs.Messages.{Message, rs232c, kjw, tcp, udp, Name, names, onLink, isW, isK}
@@ -31,6 +31,10 @@ withK p k = record { family = p .family; group = p .group; unit = p .unit; spare
 abbrev pub withPanels : DisplayBox → List Panel → DisplayBox
 withPanels b ps = record { count = b .count; panels = ps }
 
+-- the numbers that a message can be answered with: 7 is for a configuration alone
+abbrev pub messageAnswers : List ℕ
+messageAnswers = 0 ∷ 1 ∷ 2 ∷ 3 ∷ 4 ∷ 5 ∷ 6 ∷ []
+
 -- ---- checks 1 and 2, and 3 or 4 where nobody is addressed, from the names and the message alone; Done where they are passed
 
 -- "1 reply area under 512 bytes", "2 no panel with that link number, or it is of the other family"
@@ -41,6 +45,8 @@ ifOpen area fits rest = cond (ltb (length area) 512) AreaTooSmall (cond fits res
 unfoldable pub toNobody : List ℕ → Answer
 toNobody m = cond (ltb (length m) 13) WrongLength NotForUs
 
+-- "Checks run in the order of the numbers, and the first that applies is given; each is given only when its stated condition
+-- holds. UDP skips 1 and 2."
 unfoldable pub door : List Name → Message → Answer
 door ns (rs232c l m area) = ifOpen area (isW (onLink ns l)) Done
 door ns (kjw l m area) = ifOpen area (isK (onLink ns l)) Done
@@ -57,7 +63,8 @@ turn (udp m) p = within (withW p) (packets.turnOf m (p .w))
 
 -- ---- the step
 
--- what goes back: the reply's length and the area after it; by UDP there is neither
+-- "A reply fills the front of the area; bytes after it keep what they held, and the reply's length is returned (0 when there is
+-- none)": "none by UDP", and there no area
 pub record Back : Type 0 where
   pub len : ℕ
   pub area : List ℕ

@@ -1,33 +1,24 @@
--- Each number is one of 0 to 7, and no two answers share one: the answer is read back off its number.
-use mathlib.Core.Path.{_≡_, refl, sym, ap, _∙_}
-use Prim.Native.Nat.{ℕ, _≤_}
+-- Each answer stands in the list of answers at the place of its number: so no two share one, and what is computed of the list holds of every answer.
+use mathlib.Core.Path.{_≡_, refl, sym, ap, subst, _∙_}
+use mathlib.Core.Bool.{Bool, true, false, _&&_}
+use Prim.Native.Nat.{ℕ, zero, suc, _<_}
 use mathlib.Core.List.{List, [], _∷_}
-use lib.ListN.{getD}
-use lib.Dec.{lit≤}
+use lib.ListN.{length, getD}
+use lib.Dec.{T, ltb}
+use borrow.Author.Tests.{ltb-true}
 use Rattle.terms.specs.Answers.{numberOf}
 use Rattle.terms.specs.declared.Answer.{Answer}
 use Rattle.terms.specs.declared.Answer.the-variants.{Done, AreaTooSmall, NoSuchPanel, WrongLength, NotForUs, EnvelopeWrong, NotUnderstood, BadConfiguration}
 
-pub number-small : (a : Answer) → numberOf a ≤ 7
-number-small Done = lit≤ tt
-number-small AreaTooSmall = lit≤ tt
-number-small NoSuchPanel = lit≤ tt
-number-small WrongLength = lit≤ tt
-number-small NotForUs = lit≤ tt
-number-small EnvelopeWrong = lit≤ tt
-number-small NotUnderstood = lit≤ tt
-number-small BadConfiguration = lit≤ tt
-
 -- the answers in the order of their numbers
-answers : List Answer
+abbrev pub answers : List Answer
 answers = Done ∷ AreaTooSmall ∷ NoSuchPanel ∷ WrongLength ∷ NotForUs ∷ EnvelopeWrong ∷ NotUnderstood ∷ BadConfiguration ∷ []
 
 answerOf : ℕ → Answer
-unfolding answers
 answerOf n = getD answers n Done
 
 back : (a : Answer) → answerOf (numberOf a) ≡ a
-unfolding answers answerOf
+unfolding answerOf
 back Done = refl
 back AreaTooSmall = refl
 back NoSuchPanel = refl
@@ -39,3 +30,26 @@ back BadConfiguration = refl
 
 pub number-tells : (a b : Answer) → numberOf a ≡ numberOf b → a ≡ b
 number-tells a b e = sym (back a) ∙ ap answerOf e ∙ back b
+
+-- f says yes of each of them
+abbrev pub all : (Answer → Bool) → List Answer → Bool
+all f [] = true
+all f (a ∷ l) = f a && all f l
+
+both : (b c : Bool) → (b && c) ≡ true → (b ≡ true) × (c ≡ true)
+both true c e = (refl, e)
+both false c e = absurd (subst T (sym e) tt)
+
+at-each : (f : Answer → Bool) (l : List Answer) (n : ℕ) (d : Answer) → all f l ≡ true → f d ≡ true → f (getD l n d) ≡ true
+at-each f [] n d e h = h
+at-each f (a ∷ l) zero d e h = both (f a) (all f l) e .0
+at-each f (a ∷ l) (suc n) d e h = at-each f l n d (both (f a) (all f l) e .1) h
+
+-- one computed test says it of every answer
+pub every-answer : (f : Answer → Bool) → all f answers ≡ true → (a : Answer) → f a ≡ true
+unfolding answerOf
+every-answer f e a = sym (ap f (back a)) ∙ at-each f answers (numberOf a) Done e (both (f Done) _ e .0)
+
+-- the numbers are those from 0 on, one for each
+pub number-small : (a : Answer) → numberOf a < length answers
+number-small a = ltb-true (numberOf a) (length answers) (every-answer (λ (x : Answer). ltb (numberOf x) (length answers)) refl a)

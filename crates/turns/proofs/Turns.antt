@@ -20,6 +20,11 @@ takes-one turn x area y y′ a a′ n n′ z z′ p q =
 
 -- ---- the two sides of check 1
 
+-- 511 bytes are too few, and 512 enough
+pub edge : {R : Type 0} (turn : R → Turn R) (x : R) → (taken 511 turn x ≡ left x AreaTooSmall) × (taken 512 turn x ≡ turn x)
+unfolding taken
+edge turn x = (refl, refl)
+
 pub small : {R : Type 0} (room : ℕ) (turn : R → Turn R) (x : R) → room < 512 → taken room turn x ≡ left x AreaTooSmall
 unfolding taken
 small room turn x h = rw (lt-ltb room 512 h)

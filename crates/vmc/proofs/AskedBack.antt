@@ -11,7 +11,7 @@ use lib.ListN.{length, getD, getD-replicate}
 use lib.Seq.{getD-set-same, set-getD}
 use Rattle.laws.specs.Bytes.{ascii}
 use Rattle.laws.proofs.Lists.{within-at, every-at}
-use Rattle.settings.specs.Table.{mosts}
+use Rattle.settings.specs.Table.{nameCount, settingCount, mosts}
 use Rattle.panels.specs.Valid.{okShift, okW}
 use Rattle.panels.specs.declared.WRecord.{WRecord}
 use Rattle.panels.proofs.Ranges.{parts}
@@ -29,66 +29,66 @@ use Rattle.vmc.proofs.Validity.{understood-fits}
 
 -- the order to set the value that name k has
 abbrev pub present : ℕ → WRecord → Order
-present k w = cond (ltb k 21) (Set k (getD (w .settings) k 0)) (Shift (k - 21) (getD (w .shifts) (k - 21) (pos 0)))
+present k w = cond (ltb k settingCount) (Set k (getD (w .settings) k 0)) (Shift (k - settingCount) (getD (w .shifts) (k - settingCount) (pos 0)))
 
 -- each STATget's words, put behind `STATset `, are understood and order the present value
-pub told-back : (k : ℕ) (w : WRecord) → okW w ≡ true → length (w .settings) ≡ 21 → length (w .shifts) ≡ 2 → k < 23 → readData (ascii "STATset " ++ textOf (saysOf (Get k) w)) ≡ Understood (present k w)
+pub told-back : (k : ℕ) (w : WRecord) → okW w ≡ true → length (w .settings) ≡ settingCount → length (w .shifts) ≡ 2 → k < nameCount → readData (ascii "STATset " ++ textOf (saysOf (Get k) w)) ≡ Understood (present k w)
 unfolding saysOf textOf
-told-back k w v s t h = go (ltb k 21) refl
+told-back k w v s t h = go (ltb k settingCount) refl
   where
     value : ℕ
     value = getD (w .settings) k 0
 
     offset : ℤ
-    offset = getD (w .shifts) (k - 21) (pos 0)
+    offset = getD (w .shifts) (k - settingCount) (pos 0)
 
-    go : (b : Bool) → ltb k 21 ≡ b → readData (ascii "STATset " ++ textOf (cond b (Value k value) (Offset k offset))) ≡ Understood (cond b (Set k value) (Shift (k - 21) offset))
-    go true e = set-back k value (ltb-true k 21 e) (within-at (w .settings) mosts k (parts w v .settings-ok) s)
+    go : (b : Bool) → ltb k settingCount ≡ b → readData (ascii "STATset " ++ textOf (cond b (Value k value) (Offset k offset))) ≡ Understood (cond b (Set k value) (Shift (k - settingCount) offset))
+    go true e = set-back k value (ltb-true k settingCount e) (within-at (w .settings) mosts k (parts w v .settings-ok) s)
     go false e =
-        let l = ltb-false k 21 e in
-        let q : k ≡ 21 + (k - 21) = omega arith in
-        ap (λ (j : ℕ). readData (ascii "STATset " ++ moveWords j offset)) q ∙ move-back (k - 21) offset (omega arith) (every-at okShift (w .shifts) (k - 21) (pos 0) (parts w v .shifts-ok) (omega arith))
+        let l = ltb-false k settingCount e in
+        let q : k ≡ settingCount + (k - settingCount) = omega arith in
+        ap (λ (j : ℕ). readData (ascii "STATset " ++ moveWords j offset)) q ∙ move-back (k - settingCount) offset (omega arith) (every-at okShift (w .shifts) (k - settingCount) (pos 0) (parts w v .shifts-ok) (omega arith))
 
 -- and that order leaves the record as it is
 pub present-leaves : (k : ℕ) (w : WRecord) → carried (present k w) w ≡ w
 unfolding carried
-present-leaves k w = go (ltb k 21)
+present-leaves k w = go (ltb k settingCount)
   where
-    go : (b : Bool) → carried (cond b (Set k (getD (w .settings) k 0)) (Shift (k - 21) (getD (w .shifts) (k - 21) (pos 0)))) w ≡ w
+    go : (b : Bool) → carried (cond b (Set k (getD (w .settings) k 0)) (Shift (k - settingCount) (getD (w .shifts) (k - settingCount) (pos 0)))) w ≡ w
     go true = ap (withSettings w) (set-getD (w .settings) k 0)
-    go false = ap (withShifts w) (set-getD (w .shifts) (k - 21) (pos 0))
+    go false = ap (withShifts w) (set-getD (w .shifts) (k - settingCount) (pos 0))
 
 -- ---- asked back
 
 -- a value that was set is told
-pub set-told : (d : List ℕ) (k v : ℕ) (w : WRecord) → readData d ≡ Understood (Set k v) → length (w .settings) ≡ 21 → saysOf (Get k) (carried (Set k v) w) ≡ Value k v
+pub set-told : (d : List ℕ) (k v : ℕ) (w : WRecord) → readData d ≡ Understood (Set k v) → length (w .settings) ≡ settingCount → saysOf (Get k) (carried (Set k v) w) ≡ Value k v
 unfolding saysOf carried
 set-told d k v w e s =
     let h = understood-fits d (Set k v) e .0 in
-    rw (lt-ltb k 21 h, getD-set-same (w .settings) k v 0 (omega arith))
+    rw (lt-ltb k settingCount h, getD-set-same (w .settings) k v 0 (omega arith))
 
 -- a shift that was set is told
-pub shift-told : (d : List ℕ) (axis : ℕ) (z : ℤ) (w : WRecord) → readData d ≡ Understood (Shift axis z) → length (w .shifts) ≡ 2 → saysOf (Get (21 + axis)) (carried (Shift axis z) w) ≡ Offset (21 + axis) z
+pub shift-told : (d : List ℕ) (axis : ℕ) (z : ℤ) (w : WRecord) → readData d ≡ Understood (Shift axis z) → length (w .shifts) ≡ 2 → saysOf (Get (settingCount + axis)) (carried (Shift axis z) w) ≡ Offset (settingCount + axis) z
 unfolding saysOf carried
 shift-told d axis z w e s =
     let h = understood-fits d (Shift axis z) e .0 in
-    let q : 21 + axis - 21 ≡ axis = omega arith in
-    rw (le-ltb (21 + axis) 21 (omega arith), q, getD-set-same (w .shifts) axis z (pos 0) (omega arith))
+    let q : settingCount + axis - settingCount ≡ axis = omega arith in
+    rw (le-ltb (settingCount + axis) settingCount (omega arith), q, getD-set-same (w .shifts) axis z (pos 0) (omega arith))
 
 -- "RESET (both shifts to 0, house)": both are told 0
-pub reset-told : (axis : ℕ) (w : WRecord) → axis < 2 → saysOf (Get (21 + axis)) (carried Reset w) ≡ Offset (21 + axis) (pos 0)
+pub reset-told : (axis : ℕ) (w : WRecord) → axis < 2 → saysOf (Get (settingCount + axis)) (carried Reset w) ≡ Offset (settingCount + axis) (pos 0)
 unfolding saysOf carried
 reset-told axis w h =
-    let q : 21 + axis - 21 ≡ axis = omega arith in
-    rw (le-ltb (21 + axis) 21 (omega arith), q, getD-replicate 2 axis (pos 0) (pos 0) h)
+    let q : settingCount + axis - settingCount ≡ axis = omega arith in
+    rw (le-ltb (settingCount + axis) settingCount (omega arith), q, getD-replicate 2 axis (pos 0) (pos 0) h)
 
 -- ---- it stays
 
 -- an order that sets name j
 abbrev pub touches : Order → ℕ → Bool
 touches (Set k v) j = eqb j k
-touches (Shift axis z) j = eqb j (21 + axis)
-touches Reset j = leb 21 j
+touches (Shift axis z) j = eqb j (settingCount + axis)
+touches Reset j = leb settingCount j
 touches (Get k) j = false
 
 -- what no order changes, and what only an order that sets it does

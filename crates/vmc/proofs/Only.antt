@@ -20,9 +20,10 @@ use Rattle.decimals.specs.declared.Number.{Number}
 use Rattle.decimals.specs.declared.Number.the-variants.{Is, Not}
 use Rattle.decimals.proofs.Decimals.{decimal-fits, in-digits-decimal}
 use Rattle.decimals.proofs.Numerals.{numeral-digits, numeral-long}
-use Rattle.settings.specs.Table.{mosts}
+use Rattle.settings.specs.Table.{mostShift, nameCount, settingCount, mosts}
 use Rattle.panels.specs.Valid.{okShift}
-use Rattle.setting_words.specs.Names.{nameOf, leadOf, wordsOf, wordOf, namedBy, ledBy, chosenBy}
+use Rattle.setting_texts.specs.Names.{nameOf, leadOf, wordsOf, wordOf}
+use Rattle.setting_words.specs.Names.{namedBy, ledBy, chosenBy}
 use Rattle.setting_words.specs.declared.Found.{Found}
 use Rattle.setting_words.specs.declared.Found.the-variants.{At, Nothing}
 use Rattle.setting_words.proofs.Search.{Right, first-right}
@@ -37,15 +38,15 @@ use Rattle.vmc.proofs.ReadBack.{set-back, move-back, plain-back, reset-
 
 -- the words behind STATset, and what they order
 pub data Spoken : List ℕ → Order → Type 0 where
-  sets : (k v : ℕ) → k < 21 → v ≤ getD mosts k 0 → Spoken (setWords k v) (Set k v)
-  moves : (axis : ℕ) (z : ℤ) → axis < 2 → okShift z ≡ true → Spoken (moveWords (21 + axis) z) (Shift axis z)
-  plain : (axis n : ℕ) → axis < 2 → n ≤ 30 → Spoken (leadOf (21 + axis) ++ numeral n) (Shift axis (pos n))
+  sets : (k v : ℕ) → k < settingCount → v ≤ getD mosts k 0 → Spoken (setWords k v) (Set k v)
+  moves : (axis : ℕ) (z : ℤ) → axis < 2 → okShift z ≡ true → Spoken (moveWords (settingCount + axis) z) (Shift axis z)
+  plain : (axis n : ℕ) → axis < 2 → n ≤ mostShift → Spoken (leadOf (settingCount + axis) ++ numeral n) (Shift axis (pos n))
   resets : Spoken (ascii "RESET") Reset
 
 -- data that is understood, and what it asks
 pub data Asks : List ℕ → Order → Type 0 where
   stat-set : (s : List ℕ) (o : Order) → Spoken s o → Asks (ascii "STATset " ++ s) o
-  stat-get : (k : ℕ) → k < 23 → Asks (ascii "STATget " ++ nameOf k) (Get k)
+  stat-get : (k : ℕ) → k < nameCount → Asks (ascii "STATget " ++ nameOf k) (Get k)
 
 pub all : (d : List ℕ) (o : Order) → Asks d o → readData d ≡ Understood o
 all _ _ (stat-set _ _ (sets k v h l)) = set-back k v h l
@@ -133,11 +134,11 @@ level-order k t h Not r = tt
 bounded : ℕ → Bool
 bounded k = ltb k 3 || eqb (getD mosts k 0 + 1) (length (wordsOf k))
 
-word-bound : (k : ℕ) → k < 21 → 3 ≤ k → getD mosts k 0 + 1 ≡ length (wordsOf k)
+word-bound : (k : ℕ) → k < settingCount → 3 ≤ k → getD mosts k 0 + 1 ≡ length (wordsOf k)
 unfolding bounded
-word-bound k h l = eqb→eq _ _ (subst (λ (b : Bool). T (b || eqb (getD mosts k 0 + 1) (length (wordsOf k)))) (le-ltb k 3 l) (below 21 bounded tt k h))
+word-bound k h l = eqb→eq _ _ (subst (λ (b : Bool). T (b || eqb (getD mosts k 0 + 1) (length (wordsOf k)))) (le-ltb k 3 l) (below settingCount bounded tt k h))
 
-choice-order : (k : ℕ) (t : List ℕ) → k < 21 → 3 ≤ k → (x : Found) → Right (λ (v : ℕ). same (wordOf k v) t) (length (wordsOf k)) x → Says (Spoken (leadOf k ++ t)) (choiceOrder k x)
+choice-order : (k : ℕ) (t : List ℕ) → k < settingCount → 3 ≤ k → (x : Found) → Right (λ (v : ℕ). same (wordOf k v) t) (length (wordsOf k)) x → Says (Spoken (leadOf k ++ t)) (choiceOrder k x)
 unfolding setWords valueWords
 choice-order k t h l (At v) r =
     let s = r .small in
@@ -148,56 +149,56 @@ choice-order k t h l Nothing r = tt
 
 -- ---- shifts: a sign and its size, or a size alone
 
-plus : (axis : ℕ) (t u : List ℕ) → axis < 2 → t ≡ ascii "+" ++ u → (x : Number) → Reads u x → Says (Spoken (leadOf (21 + axis) ++ t)) (shiftBy axis false 1 x)
+plus : (axis : ℕ) (t u : List ℕ) → axis < 2 → t ≡ ascii "+" ++ u → (x : Number) → Reads u x → Says (Spoken (leadOf (settingCount + axis) ++ t)) (shiftBy axis false 1 x)
 unfolding moveWords shiftWords okShift
-plus axis t u h f (Is n) r = pick (Spoken (leadOf (21 + axis) ++ t)) (leb 1 n && leb n 30) (Understood (Shift axis (pos n))) NotUnderstood go (λ e. tt)
+plus axis t u h f (Is n) r = pick (Spoken (leadOf (settingCount + axis) ++ t)) (leb 1 n && leb n mostShift) (Understood (Shift axis (pos n))) NotUnderstood go (λ e. tt)
   where
-    go : (leb 1 n && leb n 30) ≡ true → Spoken (leadOf (21 + axis) ++ t) (Shift axis (pos n))
+    go : (leb 1 n && leb n mostShift) ≡ true → Spoken (leadOf (settingCount + axis) ++ t) (Shift axis (pos n))
     go e =
-        let l = leb-true 1 n (and-first (leb 1 n) (leb n 30) e) in
+        let l = leb-true 1 n (and-first (leb 1 n) (leb n mostShift) e) in
         let w : shiftWords (pos n) ≡ t = rw (ne-eqb n 0 (λ z. omega arith)) (sym (f ∙ ap (λ (y : List ℕ). ascii "+" ++ y) (r .spelt))) in
-        subst (λ (y : List ℕ). Spoken (leadOf (21 + axis) ++ y) (Shift axis (pos n))) w (moves axis (pos n) h (and-second (leb 1 n) (leb n 30) e))
+        subst (λ (y : List ℕ). Spoken (leadOf (settingCount + axis) ++ y) (Shift axis (pos n))) w (moves axis (pos n) h (and-second (leb 1 n) (leb n mostShift) e))
 plus axis t u h f Not r = tt
 
-minus : (axis : ℕ) (t u : List ℕ) → axis < 2 → t ≡ ascii "-" ++ u → (x : Number) → Reads u x → Says (Spoken (leadOf (21 + axis) ++ t)) (shiftBy axis true 1 x)
+minus : (axis : ℕ) (t u : List ℕ) → axis < 2 → t ≡ ascii "-" ++ u → (x : Number) → Reads u x → Says (Spoken (leadOf (settingCount + axis) ++ t)) (shiftBy axis true 1 x)
 unfolding moveWords shiftWords okShift
 minus axis t u h f (Is zero) r = tt
-minus axis t u h f (Is (suc n)) r = pick (Spoken (leadOf (21 + axis) ++ t)) (leb 1 (suc n) && leb (suc n) 30) (Understood (Shift axis (negsuc n))) NotUnderstood go (λ e. tt)
+minus axis t u h f (Is (suc n)) r = pick (Spoken (leadOf (settingCount + axis) ++ t)) (leb 1 (suc n) && leb (suc n) mostShift) (Understood (Shift axis (negsuc n))) NotUnderstood go (λ e. tt)
   where
-    go : (leb 1 (suc n) && leb (suc n) 30) ≡ true → Spoken (leadOf (21 + axis) ++ t) (Shift axis (negsuc n))
+    go : (leb 1 (suc n) && leb (suc n) mostShift) ≡ true → Spoken (leadOf (settingCount + axis) ++ t) (Shift axis (negsuc n))
     go e =
-        let l = leb-true (suc n) 30 (and-second (leb 1 (suc n)) (leb (suc n) 30) e) in
+        let l = leb-true (suc n) 30 (and-second (leb 1 (suc n)) (leb (suc n) mostShift) e) in
         let w : shiftWords (negsuc n) ≡ t = rw (ne-eqb (n + 1) 0 (λ z. omega arith)) (ap (λ (m : ℕ). ascii "-" ++ numeral m) (let q : n + 1 ≡ suc n = omega arith in q)) ∙ sym (f ∙ ap (λ (y : List ℕ). ascii "-" ++ y) (r .spelt)) in
-        subst (λ (y : List ℕ). Spoken (leadOf (21 + axis) ++ y) (Shift axis (negsuc n))) w (moves axis (negsuc n) h (rw (le-leb n 29 (omega arith))))
+        subst (λ (y : List ℕ). Spoken (leadOf (settingCount + axis) ++ y) (Shift axis (negsuc n))) w (moves axis (negsuc n) h (rw (le-leb n 29 (omega arith))))
 minus axis t u h f Not r = tt
 
-alone : (axis : ℕ) (t : List ℕ) → axis < 2 → (x : Number) → Reads t x → Says (Spoken (leadOf (21 + axis) ++ t)) (shiftBy axis false 0 x)
-alone axis t h (Is n) r = pick (Spoken (leadOf (21 + axis) ++ t)) (leb 0 n && leb n 30) (Understood (Shift axis (pos n))) NotUnderstood go (λ e. tt)
+alone : (axis : ℕ) (t : List ℕ) → axis < 2 → (x : Number) → Reads t x → Says (Spoken (leadOf (settingCount + axis) ++ t)) (shiftBy axis false 0 x)
+alone axis t h (Is n) r = pick (Spoken (leadOf (settingCount + axis) ++ t)) (leb 0 n && leb n mostShift) (Understood (Shift axis (pos n))) NotUnderstood go (λ e. tt)
   where
-    go : (leb 0 n && leb n 30) ≡ true → Spoken (leadOf (21 + axis) ++ t) (Shift axis (pos n))
-    go e = subst (λ (y : List ℕ). Spoken (leadOf (21 + axis) ++ y) (Shift axis (pos n))) (sym (r .spelt)) (plain axis n h (leb-true n 30 (and-second (leb 0 n) (leb n 30) e)))
+    go : (leb 0 n && leb n mostShift) ≡ true → Spoken (leadOf (settingCount + axis) ++ t) (Shift axis (pos n))
+    go e = subst (λ (y : List ℕ). Spoken (leadOf (settingCount + axis) ++ y) (Shift axis (pos n))) (sym (r .spelt)) (plain axis n h (leb-true n 30 (and-second (leb 0 n) (leb n mostShift) e)))
 alone axis t h Not r = tt
 
-shift-order : (axis : ℕ) (t : List ℕ) → axis < 2 → Says (Spoken (leadOf (21 + axis) ++ t)) (shiftOrder axis t)
+shift-order : (axis : ℕ) (t : List ℕ) → axis < 2 → Says (Spoken (leadOf (settingCount + axis) ++ t)) (shiftOrder axis t)
 unfolding shiftOrder
 shift-order axis t h =
-    pick (Spoken (leadOf (21 + axis) ++ t)) (begins (ascii "+") t) _ _ (λ e. plus axis t (drop 1 t) h (begins-front (ascii "+") t e) (levelOf (drop 1 t)) (level-says (drop 1 t)))
-    (λ _. pick (Spoken (leadOf (21 + axis) ++ t)) (begins (ascii "-") t) _ _ (λ e. minus axis t (drop 1 t) h (begins-front (ascii "-") t e) (levelOf (drop 1 t)) (level-says (drop 1 t)))
+    pick (Spoken (leadOf (settingCount + axis) ++ t)) (begins (ascii "+") t) _ _ (λ e. plus axis t (drop 1 t) h (begins-front (ascii "+") t e) (levelOf (drop 1 t)) (level-says (drop 1 t)))
+    (λ _. pick (Spoken (leadOf (settingCount + axis) ++ t)) (begins (ascii "-") t) _ _ (λ e. minus axis t (drop 1 t) h (begins-front (ascii "-") t e) (levelOf (drop 1 t)) (level-says (drop 1 t)))
     (λ _. alone axis t h (levelOf t) (level-says t)))
 
 -- ---- the whole
 
-value-order : (k : ℕ) (t : List ℕ) → k < 23 → Says (Spoken (leadOf k ++ t)) (valueOrder k t)
+value-order : (k : ℕ) (t : List ℕ) → k < nameCount → Says (Spoken (leadOf k ++ t)) (valueOrder k t)
 unfolding valueOrder chosenBy
 value-order k t h =
     pick (Spoken (leadOf k ++ t)) (ltb k 3) _ _ (λ e. level-order k t (ltb-true k 3 e) (levelOf t) (level-says t))
-    (λ e. pick (Spoken (leadOf k ++ t)) (ltb k 21) _ _ (λ f. choice-order k t (ltb-true k 21 f) (ltb-false k 3 e) (chosenBy k t) (first-right (length (wordsOf k)) (λ (v : ℕ). same (wordOf k v) t)))
+    (λ e. pick (Spoken (leadOf k ++ t)) (ltb k settingCount) _ _ (λ f. choice-order k t (ltb-true k settingCount f) (ltb-false k 3 e) (chosenBy k t) (first-right (length (wordsOf k)) (λ (v : ℕ). same (wordOf k v) t)))
     (λ f.
-    let l = ltb-false k 21 f in
-    let q : 21 + (k - 21) ≡ k = omega arith in
-    subst (λ (j : ℕ). Says (Spoken (leadOf j ++ t)) (shiftOrder (k - 21) t)) q (shift-order (k - 21) t (omega arith))))
+    let l = ltb-false k settingCount f in
+    let q : settingCount + (k - settingCount) ≡ k = omega arith in
+    subst (λ (j : ℕ). Says (Spoken (leadOf j ++ t)) (shiftOrder (k - settingCount) t)) q (shift-order (k - settingCount) t (omega arith))))
 
-set-order : (s : List ℕ) (x : Found) → Right (λ (k : ℕ). begins (leadOf k) s) 23 x → Says (Spoken s) (setOrder x s)
+set-order : (s : List ℕ) (x : Found) → Right (λ (k : ℕ). begins (leadOf k) s) nameCount x → Says (Spoken s) (setOrder x s)
 set-order s (At k) r =
     subst (λ (w : List ℕ). Says (Spoken w) (valueOrder k (drop (length (leadOf k)) s))) (sym (begins-front (leadOf k) s (r .passes))) (value-order k (drop (length (leadOf k)) s) (r .small))
 set-order s Nothing r = tt
@@ -208,7 +209,7 @@ read-set s =
     pick (Spoken s) (same s (ascii "RESET")) _ _ (λ e. subst (λ (w : List ℕ). Spoken w Reset) (sym (same-is s (ascii "RESET") e)) resets)
     (λ _. set-order s (ledBy s) (led-right s))
 
-get-order : (s : List ℕ) (x : Found) → Right (λ (k : ℕ). same (nameOf k) s) 23 x → Says (Asks (ascii "STATget " ++ s)) (getOrder x)
+get-order : (s : List ℕ) (x : Found) → Right (λ (k : ℕ). same (nameOf k) s) nameCount x → Says (Asks (ascii "STATget " ++ s)) (getOrder x)
 get-order s (At k) r = subst (λ (w : List ℕ). Asks (ascii "STATget " ++ w) (Get k)) (same-is (nameOf k) s (r .passes)) (stat-get k (r .small))
 get-order s Nothing r = tt
 
@@ -216,7 +217,7 @@ read-data : (d : List ℕ) → Says (Asks d) (readData d)
 unfolding readData readGet namedBy
 read-data d =
     pick (Asks d) (begins (ascii "STATset ") d) _ _ (λ e. subst (λ (w : List ℕ). Says (Asks w) (readSet (drop 8 d))) (sym (begins-front (ascii "STATset ") d e)) (carry (Spoken (drop 8 d)) (Asks (ascii "STATset " ++ drop 8 d)) (λ o p. stat-set (drop 8 d) o p) (readSet (drop 8 d)) (read-set (drop 8 d))))
-    (λ _. pick (Asks d) (begins (ascii "STATget ") d) _ _ (λ e. subst (λ (w : List ℕ). Says (Asks w) (readGet (drop 8 d))) (sym (begins-front (ascii "STATget ") d e)) (get-order (drop 8 d) (namedBy (drop 8 d)) (first-right 23 (λ (k : ℕ). same (nameOf k) (drop 8 d)))))
+    (λ _. pick (Asks d) (begins (ascii "STATget ") d) _ _ (λ e. subst (λ (w : List ℕ). Says (Asks w) (readGet (drop 8 d))) (sym (begins-front (ascii "STATget ") d e)) (get-order (drop 8 d) (namedBy (drop 8 d)) (first-right nameCount (λ (k : ℕ). same (nameOf k) (drop 8 d)))))
     (λ _. tt))
 
 pub only : (d : List ℕ) (o : Order) → readData d ≡ Understood o → Asks d o

@@ -11,8 +11,9 @@ use borrow.Author.Tests.{ltb-true, ltb-false, le-ltb}
 use Rattle.laws.specs.Bytes.{ascii}
 use Rattle.laws.proofs.Table.{below, sure}
 use Rattle.decimals.specs.Decimals.{numeral}
-use Rattle.setting_words.specs.Names.{leads, leadOf}
-use Rattle.setting_words.proofs.Choices.{none}
+use Rattle.settings.specs.Table.{nameCount}
+use Rattle.setting_texts.specs.Names.{leads, leadOf}
+use Rattle.setting_texts.proofs.Sizes.{none}
 use Rattle.vmc_tells.specs.Texts.{sizeOf, signOf, valueWords, shiftWords, setWords, moveWords, textOf}
 use Rattle.vmc_tells.specs.declared.Says.{Says}
 use Rattle.vmc_tells.specs.declared.Says.the-variants.{Bare, Value, Offset}
@@ -30,16 +31,16 @@ behind : (l r : List ℕ) → Low l → 1 ≤ length l → Low (l ++ r)
 behind [] r h s = absurd (omega arith)
 behind (x ∷ l) r h s = h
 
-with-lead : (k : ℕ) (r : List ℕ) → (23 ≤ k → Low r) → Low (leadOf k ++ r)
+with-lead : (k : ℕ) (r : List ℕ) → (nameCount ≤ k → Low r) → Low (leadOf k ++ r)
 unfolding lowLead some
-with-lead k r f = go (ltb k 23) refl
+with-lead k r f = go (ltb k nameCount) refl
   where
-    go : (b : Bool) → ltb k 23 ≡ b → Low (leadOf k ++ r)
+    go : (b : Bool) → ltb k nameCount ≡ b → Low (leadOf k ++ r)
     go true e =
-        let h = ltb-true k 23 e in
-        behind (leadOf k) r (ltb-true (getD (leadOf k) 0 0) 0x80 (sure _ (below 23 lowLead tt k h))) (leb→le _ _ (below 23 some tt k h))
+        let h = ltb-true k nameCount e in
+        behind (leadOf k) r (ltb-true (getD (leadOf k) 0 0) 0x80 (sure _ (below nameCount lowLead tt k h))) (leb→le _ _ (below nameCount some tt k h))
     go false e =
-        let h = ltb-false k 23 e in
+        let h = ltb-false k nameCount e in
         let n = f h in
         let q : getD (leadOf k ++ r) 0 0 ≡ getD r 0 0 = ap (λ (l : List ℕ). getD (l ++ r) 0 0) (List·getD-eq-default leads [] h) in
         omega (arith, n, q)
@@ -58,6 +59,6 @@ unfolding textOf setWords moveWords valueWords
 low-text Bare = omega arith
 low-text (Value k v) = with-lead k (valueWords k v) none-behind
   where
-    none-behind : 23 ≤ k → Low (valueWords k v)
+    none-behind : nameCount ≤ k → Low (valueWords k v)
     none-behind h = let q : getD (valueWords k v) 0 0 ≡ 0 = rw (le-ltb k 3 (omega arith)) (ap (λ (l : List ℕ). getD l 0 0) (none k v (omega arith))) in omega (arith, q)
 low-text (Offset k z) = with-lead k (shiftWords z) (λ h. low-shift z)

@@ -14,8 +14,9 @@ use Rattle.laws.proofs.Table.{below, and-left, and-right}
 use Rattle.decimals.specs.Decimals.{isDigit, decimal, leadsZero, isNumeral, upTo, inDigits, numeral}
 use Rattle.panels.specs.Valid.{okShift}
 use Rattle.laws.proofs.Conditions.{and-first}
-use Rattle.settings.specs.Table.{mosts}
-use Rattle.setting_words.specs.Names.{nameOf, leadOf, namedBy, ledBy, chosenBy}
+use Rattle.settings.specs.Table.{mostShift, nameCount, settingCount, mosts}
+use Rattle.setting_texts.specs.Names.{nameOf, leadOf}
+use Rattle.setting_words.specs.Names.{namedBy, ledBy, chosenBy}
 use Rattle.vmc_asks.specs.Asks.{shiftOrder, valueOrder, readSet, readGet, readData}
 use Rattle.vmc_tells.specs.Texts.{valueWords, shiftWords, setWords, moveWords}
 use Rattle.vmc_asks.specs.declared.Order.the-variants.{Set, Shift, Reset, Get}
@@ -58,9 +59,9 @@ is-set k v (Understood (Get j)) t = absurd t
 is-set k v NotUnderstood t = absurd t
 
 -- the words that set a value are the order to set it
-pub set-back : (k v : ℕ) → k < 21 → v ≤ getD mosts k 0 → readData (ascii "STATset " ++ setWords k v) ≡ Understood (Set k v)
+pub set-back : (k v : ℕ) → k < settingCount → v ≤ getD mosts k 0 → readData (ascii "STATset " ++ setWords k v) ≡ Understood (Set k v)
 unfolding isSet setsBack allSetBack readData readSet valueOrder upTo isNumeral leadsZero isDigit decimal inDigits numeral ledBy chosenBy setWords valueWords
-set-back k v h l = is-set k v _ (below (getD mosts k 0 + 1) (setsBack k) (below 21 allSetBack tt k h) v (omega arith))
+set-back k v h l = is-set k v _ (below (getD mosts k 0 + 1) (setsBack k) (below settingCount allSetBack tt k h) v (omega arith))
 
 -- a shift, as its sign and its size less one below 0
 isShift : ℕ → ℤ → Words → Bool
@@ -79,25 +80,25 @@ is-shift axis z (Understood (Get j)) t = absurd t
 is-shift axis z NotUnderstood t = absurd t
 
 movesBack : (ℕ → ℤ) → ℕ → ℕ → Bool
-movesBack f axis n = isShift axis (f n) (readData (ascii "STATset " ++ moveWords (21 + axis) (f n)))
+movesBack f axis n = isShift axis (f n) (readData (ascii "STATset " ++ moveWords (settingCount + axis) (f n)))
 
 -- every size of one sign, on both axes
 allMoveBack : (ℕ → ℤ) → ℕ → ℕ → Bool
 allMoveBack f sizes axis = everyBelow sizes (movesBack f axis)
 
-pub move-back : (axis : ℕ) (z : ℤ) → axis < 2 → okShift z ≡ true → readData (ascii "STATset " ++ moveWords (21 + axis) z) ≡ Understood (Shift axis z)
+pub move-back : (axis : ℕ) (z : ℤ) → axis < 2 → okShift z ≡ true → readData (ascii "STATset " ++ moveWords (settingCount + axis) z) ≡ Understood (Shift axis z)
 unfolding okShift sameZ isShift movesBack allMoveBack readData readSet valueOrder upTo isNumeral leadsZero isDigit decimal inDigits numeral ledBy chosenBy shiftOrder moveWords shiftWords
 move-back axis (pos n) h e = let l = leb-true n 30 e in is-shift axis (pos n) _ (below 31 (movesBack pos axis) (below 2 (allMoveBack pos 31) tt axis h) n (omega arith))
 move-back axis (negsuc n) h e = let l = leb-true n 29 (and-first (leb n 29) true e) in is-shift axis (negsuc n) _ (below 30 (movesBack negsuc axis) (below 2 (allMoveBack negsuc 30) tt axis h) n (omega arith))
 
 -- a shift may stand without its plus
 plainBack : ℕ → ℕ → Bool
-plainBack axis n = isShift axis (pos n) (readData (ascii "STATset " ++ leadOf (21 + axis) ++ numeral n))
+plainBack axis n = isShift axis (pos n) (readData (ascii "STATset " ++ leadOf (settingCount + axis) ++ numeral n))
 
 allPlainBack : ℕ → Bool
 allPlainBack axis = everyBelow 31 (plainBack axis)
 
-pub plain-back : (axis n : ℕ) → axis < 2 → n ≤ 30 → readData (ascii "STATset " ++ leadOf (21 + axis) ++ numeral n) ≡ Understood (Shift axis (pos n))
+pub plain-back : (axis n : ℕ) → axis < 2 → n ≤ mostShift → readData (ascii "STATset " ++ leadOf (settingCount + axis) ++ numeral n) ≡ Understood (Shift axis (pos n))
 unfolding sameZ isShift plainBack allPlainBack readData readSet valueOrder upTo isNumeral leadsZero isDigit decimal inDigits numeral ledBy chosenBy shiftOrder
 plain-back axis n h l = is-shift axis (pos n) _ (below 31 (plainBack axis) (below 2 allPlainBack tt axis h) n (omega arith))
 
@@ -124,20 +125,20 @@ is-get k NotUnderstood t = absurd t
 asksBack : ℕ → Bool
 asksBack k = isGet k (readData (ascii "STATget " ++ nameOf k))
 
-pub get-back : (k : ℕ) → k < 23 → readData (ascii "STATget " ++ nameOf k) ≡ Understood (Get k)
+pub get-back : (k : ℕ) → k < nameCount → readData (ascii "STATget " ++ nameOf k) ≡ Understood (Get k)
 unfolding isGet asksBack readData readGet namedBy
-get-back k h = is-get k _ (below 23 asksBack tt k h)
+get-back k h = is-get k _ (below nameCount asksBack tt k h)
 
 -- "no name, with what parts it from its value, begins another"
 apart : ℕ → ℕ → Bool
 apart k j = eqb j k || not (begins (leadOf j) (leadOf k))
 
 allApart : ℕ → Bool
-allApart k = everyBelow 23 (apart k)
+allApart k = everyBelow nameCount (apart k)
 
-pub none-begins : (k j : ℕ) → k < 23 → j < 23 → (j ≡ k → ⊥) → begins (leadOf j) (leadOf k) ≡ false
+pub none-begins : (k j : ℕ) → k < nameCount → j < nameCount → (j ≡ k → ⊥) → begins (leadOf j) (leadOf k) ≡ false
 unfolding apart allApart
-none-begins k j h l d = other (begins (leadOf j) (leadOf k)) (subst (λ (b : Bool). T (b || not (begins (leadOf j) (leadOf k)))) (ne-eqb j k d) (below 23 (apart k) (below 23 allApart tt k h) j l))
+none-begins k j h l d = other (begins (leadOf j) (leadOf k)) (subst (λ (b : Bool). T (b || not (begins (leadOf j) (leadOf k)))) (ne-eqb j k d) (below nameCount (apart k) (below nameCount allApart tt k h) j l))
   where
     other : (b : Bool) → T (not b) → b ≡ false
     other true t = absurd t

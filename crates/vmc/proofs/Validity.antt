@@ -7,7 +7,7 @@ use borrow.Author.Tests.{le-leb}
 use lib.IntN.{pos}
 use lib.ListN.{getD}
 use Rattle.laws.proofs.Lists.{within-set, bound-at, every-set}
-use Rattle.settings.specs.Table.{mosts}
+use Rattle.settings.specs.Table.{mostShift, nameCount, settingCount, mosts}
 use Rattle.panels.specs.Valid.{okShift, okW}
 use Rattle.panels.specs.declared.WRecord.{WRecord}
 use Rattle.panels.proofs.Ranges.{InRange, parts, whole}
@@ -20,14 +20,14 @@ use Rattle.vmc.proofs.Only.{sets, moves, plain, resets, Asks, stat-set,
 
 -- the numbers of an order, each in its range
 abbrev pub Fits : Order → Type 0
-Fits (Set k v) = (k < 21) × (v ≤ getD mosts k 0)
+Fits (Set k v) = (k < settingCount) × (v ≤ getD mosts k 0)
 Fits (Shift axis z) = (axis < 2) × (okShift z ≡ true)
 Fits Reset = Unit {0}
-Fits (Get k) = k < 23
+Fits (Get k) = k < nameCount
 
-plain-fits : (n : ℕ) → n ≤ 30 → okShift (pos n) ≡ true
+plain-fits : (n : ℕ) → n ≤ mostShift → okShift (pos n) ≡ true
 unfolding okShift
-plain-fits n h = le-leb n 30 h
+plain-fits n h = le-leb n mostShift h
 
 asks-fits : (d : List ℕ) (o : Order) → Asks d o → Fits o
 asks-fits _ _ (stat-set _ _ (sets k v h l)) = (h, l)

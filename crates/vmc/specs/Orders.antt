@@ -5,6 +5,7 @@ use mathlib.Core.List.{List}
 use lib.ListN.{getD, set, replicate}
 use lib.Dec.{ltb}
 use lib.IntN.{ℤ, pos}
+use Rattle.settings.specs.Table.{settingCount}
 use Rattle.panels.specs.declared.WRecord.{WRecord}
 use Rattle.vmc_asks.specs.declared.Order.{Order}
 use Rattle.vmc_asks.specs.declared.Order.the-variants.{Set, Shift, Reset, Get}
@@ -29,4 +30,4 @@ unfoldable pub saysOf : Order → WRecord → Says
 saysOf (Set k v) w = Bare
 saysOf (Shift axis z) w = Bare
 saysOf Reset w = Bare
-saysOf (Get k) w = cond (ltb k 21) (Value k (getD (w .settings) k 0)) (Offset k (getD (w .shifts) (k - 21) (pos 0)))
+saysOf (Get k) w = cond (ltb k settingCount) (Value k (getD (w .settings) k 0)) (Offset k (getD (w .shifts) (k - settingCount) (pos 0)))

@@ -1,5 +1,6 @@
 // VMC: an order carried out on a W panel's record, and what is said of it (document 01, "SDCP and VMC").
 use panels::WRecord;
+use settings::SETTING_COUNT;
 ghost use mathlib.Core.Path.{_≡_};
 ghost use lib.ListN.{set};
 ghost use Rattle.vmc.specs.Orders.{withSettings, withShifts, carried, saysOf};
@@ -10,7 +11,7 @@ use vmc_tells::Says;
 fn assign(w: WRecord, k: usize, v: u8) -> WRecord
     ensures { λ r. ⌜ r ≡ withSettings w (set (w .settings) k v) ⌝ }
 {
-    if 21 <= k {
+    if SETTING_COUNT <= k {
         return w;
     }
     let mut settings = w.settings;
@@ -54,11 +55,11 @@ pub fn obey(w: WRecord, o: Order) -> WRecord
 fn present(w: WRecord, k: usize) -> Says
     ensures { λ r. ⌜ r ≡ saysOf (Order.Get k) w ⌝ }
 {
-    if k < 21 {
+    if k < SETTING_COUNT {
         let settings = w.settings;
         return Says::Value(k, settings[k]);
     }
-    let axis = k - 21;
+    let axis = k - SETTING_COUNT;
     if 2 <= axis {
         return Says::Offset(k, 0);
     }

@@ -9,7 +9,9 @@ use Rattle.laws.specs.Bytes.{ascii, same, begins}
 use Rattle.decimals.specs.Decimals.{upTo}
 use Rattle.decimals.specs.declared.Number.{Number}
 use Rattle.decimals.specs.declared.Number.the-variants.{Is, Not}
-use Rattle.setting_words.specs.Names.{leadOf, namedBy, ledBy, chosenBy}
+use Rattle.settings.specs.Table.{mostLevel, mostShift, levelCount, settingCount}
+use Rattle.setting_texts.specs.Names.{leadOf}
+use Rattle.setting_words.specs.Names.{namedBy, ledBy, chosenBy}
 use Rattle.setting_words.specs.declared.Found.{Found}
 use Rattle.setting_words.specs.declared.Found.the-variants.{At, Nothing}
 use Rattle.vmc_asks.specs.declared.Order.the-variants.{Set, Shift, Reset, Get}
@@ -18,7 +20,7 @@ use Rattle.vmc_asks.specs.declared.Words.the-variants.{Understood, NotUn
 
 -- "0 to 100 (no sign, no leading zero)", or no number
 abbrev pub levelOf : List ℕ → Number
-levelOf s = upTo 100 s
+levelOf s = upTo mostLevel s
 
 abbrev pub levelOrder : ℕ → Number → Words
 levelOrder k (Is v) = Understood (Set k v)
@@ -36,7 +38,7 @@ signed true (suc n) = negsuc n
 
 -- a shift of at least so much and at most 30
 abbrev pub shiftBy : ℕ → Bool → ℕ → Number → Words
-shiftBy axis minus least (Is n) = cond (leb least n && leb n 30) (Understood (Shift axis (signed minus n))) NotUnderstood
+shiftBy axis minus least (Is n) = cond (leb least n && leb n mostShift) (Understood (Shift axis (signed minus n))) NotUnderstood
 shiftBy axis minus least Not = NotUnderstood
 
 -- "SHIFTH or SHIFTV with -30 to +30 (sign allowed save before 0, no leading zero)"
@@ -48,7 +50,7 @@ shiftOrder axis s =
 
 -- what the words behind name k ask: levels are 0 to 2, choices 3 to 20, the shifts 21 and 22
 unfoldable pub valueOrder : ℕ → List ℕ → Words
-valueOrder k s = cond (ltb k 3) (levelOrder k (levelOf s)) (cond (ltb k 21) (choiceOrder k (chosenBy k s)) (shiftOrder (k - 21) s))
+valueOrder k s = cond (ltb k levelCount) (levelOrder k (levelOf s)) (cond (ltb k settingCount) (choiceOrder k (chosenBy k s)) (shiftOrder (k - settingCount) s))
 
 abbrev pub setOrder : Found → List ℕ → Words
 setOrder (At k) s = valueOrder k (drop (length (leadOf k)) s)

@@ -3,13 +3,18 @@ use decimals::Number;
 use decimals::plain_number;
 use octets::begins_with;
 use octets::same_bytes;
+use setting_texts::lead_length;
 use setting_words::Found;
 use setting_words::chosen;
-use setting_words::lead_length;
 use setting_words::led;
 use setting_words::named;
+use settings::LEVEL_COUNT;
+use settings::MOST_LEVEL;
+use settings::MOST_SHIFT;
+use settings::SETTING_COUNT;
 ghost use mathlib.Core.Path.{_≡_};
 ghost use Prim.Native.Nat.{_≤_};
+ghost use Rattle.settings.specs.Table.{mostShift};
 ghost use Rattle.setting_words.specs.Names.{chosenBy};
 ghost use Rattle.vmc_asks.specs.Asks.{levelOf, signed, levelOrder, choiceOrder, shiftBy, shiftOrder, valueOrder, readSet, readGet, readData};
 
@@ -35,7 +40,7 @@ pub enum Words {
 fn level_of(s: &[u8]) -> Number
     ensures { λ r. ⌜ r ≡ levelOf (now (s .entry)) ⌝ }
 {
-    plain_number(s, 100)
+    plain_number(s, MOST_LEVEL as u32)
 }
 
 // "A word that should be a number and is none ends the reading with 6."
@@ -59,7 +64,7 @@ fn choice_order(k: usize, s: &[u8]) -> Words
 
 // A size with its sign.
 fn signed_of(minus: bool, size: u8) -> i8
-    requires { ⌜ size ≤ 30 ⌝ }
+    requires { ⌜ size ≤ mostShift ⌝ }
     ensures { λ r. ⌜ r ≡ signed minus size ⌝ }
 {
     if minus {
@@ -78,7 +83,7 @@ fn shift_by(axis: usize, minus: bool, least: u64, s: &[u8]) -> Words
     if n < least {
         return Words::NotUnderstood;
     }
-    if 30 < n {
+    if MOST_SHIFT < n {
         return Words::NotUnderstood;
     }
     Words::Understood(Order::Shift(axis, signed_of(minus, n as u8)))
@@ -101,13 +106,13 @@ fn shift_order(axis: usize, s: &[u8]) -> Words
 fn value_order(k: usize, s: &[u8]) -> Words
     ensures { λ r. ⌜ r ≡ valueOrder k (now (s .entry)) ⌝ }
 {
-    if k < 3 {
+    if k < LEVEL_COUNT {
         return level_order(k, s);
     }
-    if k < 21 {
+    if k < SETTING_COUNT {
         return choice_order(k, s);
     }
-    shift_order(k - 21, s)
+    shift_order(k - SETTING_COUNT, s)
 }
 
 // The words behind STATset.

@@ -8,14 +8,15 @@ use lib.Dec.{eqb, ltb}
 use lib.IntN.{ℤ, pos, negsuc}
 use Rattle.laws.specs.Bytes.{ascii}
 use Rattle.decimals.specs.Decimals.{numeral}
-use Rattle.setting_words.specs.Names.{leadOf, wordOf}
+use Rattle.settings.specs.Table.{levelCount}
+use Rattle.setting_texts.specs.Names.{leadOf, wordOf}
 use Rattle.vmc_tells.specs.declared.Says.{Says}
 use Rattle.vmc_tells.specs.declared.Says.the-variants.{Bare, Value, Offset}
 use Rattle.vmc_tells.specs.declared.Text.{Text}
 
 -- the words of a value: a level's number, or a choice's word
 unfoldable pub valueWords : ℕ → ℕ → List ℕ
-valueWords k v = cond (ltb k 3) (numeral v) (wordOf k v)
+valueWords k v = cond (ltb k levelCount) (numeral v) (wordOf k v)
 
 -- a shift's size and sign
 abbrev pub sizeOf : ℤ → ℕ

@@ -1,17 +1,17 @@
 // VMC: the words that go back (document 01, "SDCP and VMC").
 use decimals::numeral_of;
 use octets::lay;
-use setting_words::lead_length;
-use setting_words::put_lead;
-use setting_words::put_word;
-use setting_words::word_length;
+use setting_texts::lead_length;
+use setting_texts::put_lead;
+use setting_texts::put_word;
+use setting_texts::word_length;
+use settings::LEVEL_COUNT;
 ghost use mathlib.Core.Path.{_≡_};
 ghost use Prim.Native.Nat.{_≤_};
 ghost use mathlib.Core.List.{_++_};
 ghost use lib.ListN.{length};
 ghost use Rattle.decimals.specs.Decimals.{numeral};
-ghost use Rattle.setting_words.specs.Names.{leadOf, wordOf};
-ghost use Rattle.vmc_asks.specs.Asks.{signed};
+ghost use Rattle.setting_texts.specs.Names.{leadOf, wordOf};
 ghost use Rattle.vmc_tells.specs.Texts.{sizeOf, signOf, shiftWords, setWords, textual, spelled};
 
 // What an order is told: nothing, a setting's value, or a shift.
@@ -66,7 +66,7 @@ fn spell_choice(k: usize, v: u8) -> Text
 fn spell_value(k: usize, v: u8) -> Text
     ensures { λ r. ⌜ r ≡ textual (setWords k v) ⌝ }
 {
-    if k < 3 {
+    if k < LEVEL_COUNT {
         return spell_level(k, v);
     }
     spell_choice(k, v)

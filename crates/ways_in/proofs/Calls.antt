@@ -22,7 +22,7 @@ use Rattle.steps.specs.Messages.{udp, Name, nobody, nameOf, names}
 use Rattle.steps.specs.Addressing.{isCalled, addressed, anyCalled}
 use Rattle.steps.specs.Step.{withW, withPanels, toNobody, door, turn, nothing, passed, refused, step}
 use Rattle.steps.proofs.Door.{nobody-shut}
-use Rattle.ways_in.specs.Promise.{heeded}
+use Rattle.ways_in.specs.Turns.{heeded}
 use Rattle.steps.proofs.Validity.{valid-names}
 
 pub uncalled : (b : DisplayBox) (m : List ℕ) → anyCalled m (names b) ≡ false → step b (udp m) ≡ refused b (udp m) (toNobody m)

@@ -1,5 +1,4 @@
 mod Calls
 pub mod Determined
-pub mod Links
-mod Names
+pub mod Doors
 mod Stores

@@ -1,6 +1,6 @@
 -- A message with a link is one store: the pointwise step calls one place, so it sets that panel and leaves the rest.
 use Prim.Native.Nat.{ℕ, suc, _+_, _-_, _≤_}
-use mathlib.Core.Path.{_≡_, sym, ap, _∙_}
+use mathlib.Core.Path.{_≡_, refl, sym, ap, subst, _∙_}
 use mathlib.Core.Bool.{Bool, true, false, cond, _&&_}
 use mathlib.Core.List.{List, [], _∷_}
 use native.Mathlib.Omega.{arith}
@@ -9,17 +9,22 @@ use lib.ListN.{length, getD, set}
 use borrow.Author.Tests.{eq-eqb, ne-eqb}
 use Rattle.laws.specs.Runs.{each}
 use Rattle.laws.proofs.Runs.{each-one}
-use Rattle.terms.specs.Answers.{numberOf}
 use Rattle.terms.specs.declared.Answer.{Answer}
 use Rattle.terms.specs.declared.Answer.the-variants.{Done}
+use Rattle.turns.specs.Turns.{Turn}
 use Rattle.panels.specs.Records.{pastEnd}
 use Rattle.panels.specs.declared.Panel.{Panel}
 use Rattle.panels.specs.declared.DisplayBox.{DisplayBox}
 use Rattle.steps.specs.Messages.{Message, rs232c, kjw, tcp, udp, Name, names}
 use Rattle.steps.specs.Addressing as addressing
 use Rattle.steps.specs.Addressing.{target, addressed, byTcp, isId}
-use Rattle.steps.specs.Step.{withPanels, door, turn, Back, back, Outcome as Stepped, panelAt, passed, refused, step}
-use Rattle.ways_in.specs.Promise.{Steps}
+use Rattle.steps.specs.Step.{withPanels, door, turn, Back, backOn, back, Outcome as Stepped, panelAt, passed, refused, step}
+use Rattle.laws.specs.Bytes.{Sent}
+use Rattle.addresses.specs.declared.Line.{Line}
+use Rattle.addresses.specs.declared.Line.the-variants.{Rs232c, Kjw, Tcp}
+use Rattle.ways_in.specs.Promise.{Steps, messageOf}
+use Rattle.ways_in.specs.Turns.{Acts}
+use Rattle.ways_in.specs.declared.Acted.{Acted}
 use Rattle.ways_in.specs.declared.Outcome.{Outcome}
 
 -- the promise, from the step's outcome
@@ -85,3 +90,26 @@ tcp-bound ns l m h = go (addressing.hasIds m) (eqb (getD m 6 0) 0 && eqb (getD m
     go true false true r = omega arith
     go true false false r = omega arith
     go false z i r = omega arith
+
+-- a turn does not look at the link
+turn-same : (line : Line) (l : ℕ) (m area : List ℕ) (p : Panel) → turn (messageOf line 0 m area) p ≡ turn (messageOf line l m area) p
+unfolding turn
+turn-same Rs232c l m area p = refl
+turn-same Kjw l m area p = refl
+turn-same Tcp l m area p = refl
+
+lent-back : (line : Line) (l : ℕ) (m area reply : List ℕ) → back (messageOf line l m area) reply ≡ backOn area reply
+lent-back Rs232c l m area reply = refl
+lent-back Kjw l m area reply = refl
+lent-back Tcp l m area reply = refl
+
+-- the panel's turn, stored at its place
+pub acted : (line : Line) (b : DisplayBox) (l : ℕ) (m area : List ℕ) (i : ℕ) (p : Panel) (t : Acted) (area′ : List ℕ) (r : Outcome) → step b (messageOf line l m area) ≡ stored b (messageOf line l m area) i → p ≡ panelAt i b → Acts (turn (messageOf line 0 m area) p) area t area′ → r .after ≡ withPanels b (set (b .panels) i (t .after)) → r .answer ≡ t .answer → r .len ≡ t .len → Steps b (messageOf line l m area) r area′
+acted line b l m area i p t area′ r e q a x y z =
+    let msg = messageOf line l m area in
+    let u : turn (messageOf line 0 m area) p ≡ turn msg (panelAt i b) = ap (turn (messageOf line 0 m area)) q ∙ turn-same line l m area (panelAt i b) in
+    let v = subst (λ (w : Turn Panel). Acts w area t area′) u a in
+    let k = lent-back line l m area (turn msg (panelAt i b) .reply) in
+    steps b msg r area′ (stored b msg i) e
+    (x ∙ ap (λ (o : Panel). withPanels b (set (b .panels) i o)) (v .after-is)) (y ∙ v .answer-is)
+    (z ∙ v .sends .length-is ∙ ap (λ (o : Back). o .len) (sym k)) (v .sends .area-is ∙ ap (λ (o : Back). o .area) (sym k))

@@ -1,17 +1,15 @@
--- The promise at the four ways in: the whole outcome is the step's, and every lent byte.
-use Prim.Native.Nat.{ℕ, _-_}
+-- The promise at the ways in: the whole outcome is the step's, and every lent byte.
+use Prim.Native.Nat.{ℕ}
 use mathlib.Core.Path.{_≡_}
-use mathlib.Core.Bool.{Bool, cond, _&&_}
 use mathlib.Core.List.{List}
-use lib.Dec.{eqb, leb}
-use Rattle.panels.specs.Valid.{valid}
-use Rattle.panels.specs.declared.Panel.{Panel}
+use Rattle.terms.specs.declared.Answer.{Answer}
 use Rattle.panels.specs.declared.DisplayBox.{DisplayBox}
-use Rattle.vmc.specs.Orders.{carried}
-use Rattle.vmc_asks.specs.declared.Order.{Order}
-use Rattle.steps.specs.Messages.{Message, nameOf}
-use Rattle.steps.specs.Addressing.{isCalled}
-use Rattle.steps.specs.Step.{withW, panelAt, step}
+use Rattle.steps.specs.Messages.{Message, rs232c, kjw, tcp, udp}
+use Rattle.steps.specs.Step.{Outcome as Stepped, step}
+use Rattle.addresses.specs.declared.Line.{Line}
+use Rattle.addresses.specs.declared.Line.the-variants.{Rs232c, Kjw, Tcp}
+use Rattle.ways_in.specs.declared.Way.{Way}
+use Rattle.ways_in.specs.declared.Way.the-variants.{By, Udp}
 use Rattle.ways_in.specs.declared.Outcome.{Outcome}
 
 -- the box after the message, the answer, the reply's length, and the area; by UDP the area is none
@@ -21,10 +19,30 @@ pub record Steps (b : DisplayBox) (m : Message) (r : Outcome) (area′ : List �
   pub length-is : r .len ≡ step b m .back .len
   pub area-is : area′ ≡ step b m .back .area
 
--- the box keeps the rules and has a panel of that family on the link
-unfoldable pub isOn : ℕ → DisplayBox → ℕ → Bool
-isOn family b l = valid b && leb 1 l && leb l (b .count) && eqb (panelAt (l - 1) b .family) family
+-- "RS-232C port of panel p, KJW link of panel p, SDCP by TCP on the link of panel p"
+abbrev pub messageOf : Line → ℕ → List ℕ → List ℕ → Message
+messageOf Rs232c l m area = rs232c l m area
+messageOf Kjw l m area = kjw l m area
+messageOf Tcp l m area = tcp l m area
 
--- a panel that is called carries an order out
-unfoldable pub heeded : List ℕ → Order → Panel → Panel
-heeded m o p = cond (isCalled m (nameOf p)) (withW p (carried o (p .w))) p
+-- what came of a message: the box after it, the answer, the reply's length, and the area after it
+pub record Came : Type 0 where
+  pub box : DisplayBox
+  pub answer : Answer
+  pub len : ℕ
+  pub area : List ℕ
+
+-- "All but UDP come with a lent reply area."
+abbrev pub withArea : Stepped → Came
+withArea o = record { box = o .box; answer = o .answer; len = o .back .len; area = o .back .area }
+
+-- by UDP there is no reply, and an area that is handed in with it keeps its bytes
+abbrev pub unanswered : Stepped → List ℕ → Came
+unanswered o area = record { box = o .box; answer = o .answer; len = o .back .len; area = area }
+
+abbrev pub cameBy : Way → DisplayBox → ℕ → List ℕ → List ℕ → Came
+cameBy (By line) b l m area = withArea (step b (messageOf line l m area))
+cameBy Udp b l m area = unanswered (step b (udp m)) area
+
+abbrev pub outcomeOf : Came → Outcome
+outcomeOf c = record { after = c .box; answer = c .answer; len = c .len }

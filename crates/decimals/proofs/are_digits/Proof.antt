@@ -6,7 +6,7 @@ use borrow.Author.Tests.{not-true, not-false}
 use borrow.Author.Needs.{needs}
 use native.Mathlib.Omega.{arith}
 use Rattle.laws.specs.Lists.{every}
-use Rattle.laws.proofs.Lists.{behind, every-from}
+use Rattle.laws.proofs.Lists.{every-no, every-yes, every-all}
 use Rattle.decimals.specs.Decimals.{isDigit}
 use Rattle.decimals.proofs.are_digits.Statement.{statement}
 use Rattle.decimals.proofs.are_digits.Tie as tie
@@ -29,7 +29,7 @@ is-digit-requires c κs = search needs
 returns : tie.Need-returns Inv-loop μ-loop
 returns c =
     let l = c .before .before .before .before in
-    sym (l .loop .inv .1 ∙ every-from isDigit (l .before .before .args .p .now) (l .loop .i) 0 (c .before .before .before .loop-test .taken) ∙ rw (← c .before .is-digit .ensures, not-true (c .before .is-digit .result) (c .if1 .taken)))
+    every-no isDigit (l .before .before .args .p .now) (l .loop .i) (l .loop .inv .1) 0 (c .before .before .before .loop-test .taken) (sym (c .before .is-digit .ensures) ∙ not-true (c .before .is-digit .result) (c .if1 .taken))
 
 add-i : tie.Need-add-i Inv-loop μ-loop
 add-i c = search needs
@@ -40,13 +40,12 @@ loop-less c = search needs
 loop-again : tie.Need-loop-again Inv-loop μ-loop
 loop-again c =
     let l = c .before .before .before .before in
-    (search needs, l .loop .inv .1 ∙ every-from isDigit (l .before .before .args .p .now) (l .loop .i) 0 (c .before .before .before .loop-test .taken) ∙ rw (← c .before .is-digit .ensures, not-false (c .before .is-digit .result) (c .if1 .left)))
+    (search needs, every-yes isDigit (l .before .before .args .p .now) (l .loop .i) (l .loop .inv .1) 0 (c .before .before .before .loop-test .taken) (sym (c .before .is-digit .ensures) ∙ not-false (c .before .is-digit .result) (c .if1 .left)))
 
 returns-2 : tie.Need-returns-2 Inv-loop μ-loop
 returns-2 c =
     let l = c .before in
-    let h : length (l .before .before .args .p .now) ≤ l .loop .i = omega arith in
-    sym (l .loop .inv .1 ∙ rw (behind (l .before .before .args .p .now) (l .loop .i) h))
+    every-all isDigit (l .before .before .args .p .now) (l .loop .i) (l .loop .inv .1) (omega arith)
 
 pub are-digits-spec : {M : Type 1} → statement M
 are-digits-spec =

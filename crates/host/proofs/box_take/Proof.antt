@@ -42,10 +42,10 @@ use denote.Exit.{yes}
 use Rattle.panels.specs.declared.DisplayBox.{DisplayBox}
 use Rattle.panels.proofs.DisplayBox as B
 use Rattle.panels.proofs.DisplayBox.Laws as B′
-use Rattle.host_box.specs.Called.{Called, called, takenOf}
-use Rattle.host_box.specs.declared.Taken.{Taken}
-use Rattle.host_box.proofs.Taken as T
-use Rattle.host_box.proofs.Taken.Laws as T′
+use Rattle.host_box.specs.Called.{Called, called, numbersOf}
+use Rattle.host_box.specs.declared.Outcome.{Outcome as Held}
+use Rattle.host_box.proofs.Outcome as T
+use Rattle.host_box.proofs.Outcome.Laws as T′
 use Rattle.host_box.proofs.take_message as step
 use Rattle.host_box.proofs.take_message.Symbol as step-symbol
 use Rattle.host_box.proofs.take_message.Symbol.{name as #take-message}
@@ -70,14 +70,14 @@ box-vals = laws.vals B.the-type B′.the-laws
 abbrev told-vals : Outcome → List Val
 told-vals = laws.vals O.the-type O′.the-laws
 
-abbrev outcome-of : Taken → Outcome
+abbrev outcome-of : Held → Outcome
 outcome-of t = record { answer = t .answer; len = t .len }
 
 -- what the relation of the callee's result says of its fields
-box-is : (t : Taken) (u : Val) → Is T.the-row t (u ∷ []) → Is B.the-row (t .after) (box-vals (t .after))
+box-is : (t : Held) (u : Val) → Is T.the-row t (u ∷ []) → Is B.the-row (t .after) (box-vals (t .after))
 box-is t u is = laws.owed T.the-type T′.the-laws t (u ∷ []) is .0
 
-told-is : (t : Taken) (u : Val) → Is T.the-row t (u ∷ []) → Is O.the-row (outcome-of t) (told-vals (outcome-of t))
+told-is : (t : Held) (u : Val) → Is T.the-row t (u ∷ []) → Is O.the-row (outcome-of t) (told-vals (outcome-of t))
 told-is t u is = laws.owes O.the-type O′.the-laws (outcome-of t) (laws.owed T.the-type T′.the-laws t (u ∷ []) is .1)
 
 module _ {M : Type 1} (𝓤 : URA M) (H : Heap 𝓤) (A : Atoms 𝓤) (at-mem : Memory → SProp 𝓤) (run : Routine → Fun 𝓤) where
@@ -121,16 +121,16 @@ module _ {M : Type 1} (𝓤 : URA M) (H : Heap 𝓤) (A : Atoms 𝓤) (W : Given
   asked : ent 𝓤 (onEntry 𝓤 H A step.signature (κ′, (κ″, tt)) (q′, (q″, tt)) given given-vals) (Step 𝓤 H A at-mem run .pre to)
   asked = qed W ((‵ (flft κ′ q′) ⊛ (‵ (flft κ″ q″) ⊛ ‵ ftrue)) ∷ ‵ (owns (B.the-row ∷ u8 ∷ usize ∷ ShrSlice (named 0) κ′ u8 ∷ MutSlice (named 1) κ″ u8 ∷ []) given given-vals) ∷ []) ∵ join ! $ frame ! $ done !
 
-  abbrev Left : Taken → List ℕ → SProp 𝓤
+  abbrev Left : Held → List ℕ → SProp 𝓤
   Left t zs = ⋆ 𝓤 H A (‵ (fobs γ (B.the-row .coded .code (t .after))) ∷ ‵ (fbor κ (Body (mem B.the-row) b o γ)) ∷ ‵ (flft κ q) ∷ (‵ (flft κ′ q′) ⊛ (‵ (flft κ″ q″) ⊛ ‵ ftrue)) ∷ ‵ Own ∷ ‵ (finally u8 (z .name) zs) ∷ [])
 
   -- what is left at the end gives the promise
-  exits : (t : Taken) (zs : List ℕ) → way < 2 ^ 8 → n < 2 ^ 64 → Is O.the-row (outcome-of t) (told-vals (outcome-of t)) → (t ≡ takenOf did) × (zs ≡ did .area) → length zs ≡ length (now z)
+  exits : (t : Held) (zs : List ℕ) → way < 2 ^ 8 → n < 2 ^ 64 → Is O.the-row (outcome-of t) (told-vals (outcome-of t)) → (t ≡ numbersOf did) × (zs ≡ did .area) → length zs ≡ length (now z)
       → ent 𝓤 (Left t zs) (Post (only (told-vals (outcome-of t))))
   exits t zs byte fits is e l =
       qed W (‵ (fobs γ (B.the-row .coded .code (t .after))) ∷ ‵ (fbor κ (Body (mem B.the-row) b o γ)) ∷ ‵ (flft κ q) ∷ (‵ (flft κ′ q′) ⊛ (‵ (flft κ″ q″) ⊛ ‵ ftrue)) ∷ ‵ Own ∷ ‵ (finally u8 (z .name) zs) ∷ []) ∵
       suffices ! _ (ends-at 𝓤 H A take.ended stayed (take.clauses 𝓤 H A at-mem run) W (((κ, (κ′, (κ″, tt))), (q, (q′, (q″, tt))), tt, x, at), tt) (only (told-vals (outcome-of t))) (outcome-of t) (t .after, (tt, (tt, (tt, (zs, tt))))) (tt, (tt, (tt, (tt, (l, tt)))))) $
-      says ! (ap (λ (g : Taken). g .after) (e .0), (ap outcome-of (e .0), e .1)) $
+      says ! (ap (λ (g : Held). g .after) (e .0), (ap outcome-of (e .0), e .1)) $
       move ! (2 ∷ 3 ∷ []) $ join ! $ frame ! $
       feqI ! (List Val) (vptr b o ∷ []) (vptr b o ∷ []) refl $ fjoin3 ! $ nothing ! $ move ! (3 ∷ 0 ∷ []) $ fjoin ! $ move ! (2 ∷ 0 ∷ []) $ fjoin ! $ owned ! usize (Is usize) (uint-makes 𝓤 H A W w64) n _ (refl, fits) $ fjoin ! $ owned ! u8 (Is u8) (uint-makes 𝓤 H A W w8) way _ (refl, byte) $ fjoin ! $ move ! (1 ∷ 0 ∷ []) $ fjoin ! $ frame ! $
       owned ! O.the-row (Is O.the-row) (laws.makes O.the-type O′.the-plain 𝓤 H A) (outcome-of t) _ is $ done !
@@ -156,9 +156,9 @@ module _ {M : Type 1} (𝓤 : URA M) (H : Heap 𝓤) (A : Atoms 𝓤) (W : Given
         move ! (25 ∷ 0 ∷ []) $ use2 W (raw (Step 𝓤 H A at-mem run .pre to)) asked $
         -- the call, and what it promises
         calls-at ! fm (Step 𝓤 H A at-mem run) known to (and-then ! (load ! (from ! (stop !)) (look ! 9 refl)) (and-then ! (load ! (from ! (stop !)) (look ! 19 refl)) (and-then ! (load ! (from ! (stop !)) (look ! 17 refl)) (and-then ! (load ! (from ! (stop !)) (look ! 15 refl)) (and-then ! (load ! (from ! (stop !)) (look ! 5 refl)) (no-more !)))))) (λ u.
-        use1 W (later (some (λ (t : Taken). ((‵ (flft κ′ q′) ⊛ (‵ (flft κ″ q″) ⊛ ‵ ftrue)) ⊛ ‵ (T.the-row .own t (u ∷ []))) ⊛ raw (ensured 𝓤 H A step.ended (step.clauses 𝓤 H A at-mem run) (κ′, (κ″, tt)) given tt t)))) (id⊢ 𝓤 _) $ await ! tt $ pick ! (λ t.
-        split ! $ move ! (1 ∷ []) $ use1 W (some (λ (zs : Unit {0} × (Unit {0} × (Unit {0} × (Unit {0} × (List ℕ × Unit {0}))))). ‵ (lasts step.ended (κ′, (κ″, tt)) given zs) ⊛ raw (fact 𝓤 ((t ≡ takenOf did) × (zs .1 .1 .1 .1 .0 ≡ did .area))))) (id⊢ 𝓤 _) $ pick ! (λ zs.
-        split ! $ move ! (1 ∷ []) $ heard ! ((t ≡ takenOf did) × (zs .1 .1 .1 .1 .0 ≡ did .area)) (λ e.
+        use1 W (later (some (λ (t : Held). ((‵ (flft κ′ q′) ⊛ (‵ (flft κ″ q″) ⊛ ‵ ftrue)) ⊛ ‵ (T.the-row .own t (u ∷ []))) ⊛ raw (ensured 𝓤 H A step.ended (step.clauses 𝓤 H A at-mem run) (κ′, (κ″, tt)) given tt t)))) (id⊢ 𝓤 _) $ await ! tt $ pick ! (λ t.
+        split ! $ move ! (1 ∷ []) $ use1 W (some (λ (zs : Unit {0} × (Unit {0} × (Unit {0} × (Unit {0} × (List ℕ × Unit {0}))))). ‵ (lasts step.ended (κ′, (κ″, tt)) given zs) ⊛ raw (fact 𝓤 ((t ≡ numbersOf did) × (zs .1 .1 .1 .1 .0 ≡ did .area))))) (id⊢ 𝓤 _) $ pick ! (λ zs.
+        split ! $ move ! (1 ∷ []) $ heard ! ((t ≡ numbersOf did) × (zs .1 .1 .1 .1 .0 ≡ did .area)) (λ e.
         fsplit ! $ drop ! $ fsplit ! $ drop ! $ fsplit ! $ drop ! $ fsplit ! $ drop ! $ fsplit ! $ fsplit ! $ move ! (1 ∷ []) $ feqL ! (λ l. move ! (2 ∷ []) $ split ! $ move ! (1 ∷ []) $
         peeks ! T.the-row (Is T.the-row) (shows 𝓤 H A T.the-row) t (u ∷ []) (λ is. drop ! $
         land ! (from ! (stop !)) (init ! 13 refl (laws.lawful T.the-type T′.the-laws 𝓤 H A W .typed t _ is .0)) $

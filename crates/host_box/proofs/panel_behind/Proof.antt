@@ -6,7 +6,7 @@ use borrow.Author.Tests.{le-leb, lt-leb, not-true, not-false}
 use borrow.Author.Needs.{needs}
 use native.Mathlib.Omega.{arith}
 use Rattle.panels.specs.Valid.{valid}
-use Rattle.ways_in.proofs.Links.{valid-count}
+use Rattle.ways_in.proofs.Doors.{valid-count}
 use Rattle.host_box.specs.Called.{panelBehind}
 use Rattle.host_box.proofs.panel_behind.Statement.{statement}
 use Rattle.host_box.proofs.panel_behind.Tie as tie

@@ -1,101 +1,76 @@
 -- `take_message` hands the message to the way in that has its number.
-use mathlib.Core.Path.{_≡_, sym, ap, _∙_}
-use borrow.Author.Tests.{ne-eqb}
+use Prim.Native.Nat.{ℕ}
+use mathlib.Core.Path.{_≡_, refl, sym, ap, _∙_}
+use mathlib.Core.List.{List}
 use borrow.Author.Needs.{needs}
-use Rattle.steps.specs.Messages.{rs232c, kjw, tcp}
-use Rattle.host_box.specs.Called.{Called, called, takenOf}
-use Rattle.host_box.proofs.Called.{by-rs232c, by-kjw, by-tcp, by-udp, by-no-way, told-lent, told-alone}
+use Rattle.terms.specs.Answers.{numberOf}
+use Rattle.panels.specs.declared.DisplayBox.{DisplayBox}
+use Rattle.ways_in.specs.Promise.{outcomeOf, cameBy}
+use Rattle.ways_in.specs.declared.Way.{Way}
+use Rattle.ways_in.specs.declared.Outcome.{Outcome as Told}
+use Rattle.host_box.specs.Called.{Called, wayOf, calledBy, called, numbersOf}
+use Rattle.host_box.specs.declared.Entry.{Entry}
+use Rattle.host_box.specs.declared.Entry.the-variants.{Through, Nowhere}
+use Rattle.host_box.specs.declared.Outcome.{Outcome}
 use Rattle.host_box.proofs.take_message.Statement.{statement}
 use Rattle.host_box.proofs.take_message.Tie as tie
 
-take-rs232c-requires : tie.Need-take-rs232c-requires
-take-rs232c-requires c κs = search needs
+-- what a call is, by where its number leads
+leads : (b : DisplayBox) (n link : ℕ) (m area : List ℕ) (e f : Entry) → e ≡ wayOf n → e ≡ f → called b n link m area ≡ calledBy f b link m area
+unfolding called
+leads b n link m area e f p q = ap (λ (x : Entry). calledBy x b link m area) (sym p ∙ q)
+
+abbrev in-numbers : Told → Outcome
+in-numbers t = record { after = t .after; answer = numberOf (t .answer); len = t .len }
+
+through : (b : DisplayBox) (n link : ℕ) (m area : List ℕ) (e : Entry) (w : Way) (t : Told) (area′ : List ℕ) (r : Outcome) → e ≡ wayOf n → e ≡ Through w → (t ≡ outcomeOf (cameBy w b link m area)) × (area′ ≡ cameBy w b link m area .area) → r ≡ in-numbers t → (r ≡ numbersOf (called b n link m area)) × (area′ ≡ called b n link m area .area)
+through b n link m area e w t area′ r p q s k =
+    let c = leads b n link m area e (Through w) p q in
+    (k ∙ ap in-numbers (s .0) ∙ ap numbersOf (sym c), s .1 ∙ ap (λ (x : Called). x .area) (sym c))
+
+way-of-requires : tie.Need-way-of-requires
+way-of-requires c κs = search needs
+
+enum-known-w : tie.Need-enum-known-w
+enum-known-w c = search needs
+
+take-requires : tie.Need-take-requires
+take-requires c κs = search needs
 
 in-numbers-requires : tie.Need-in-numbers-requires
 in-numbers-requires c κs = search needs
+
+enum-told : tie.Need-enum-told
+enum-told c = search needs
+
+in-numbers-requires-2 : tie.Need-in-numbers-requires-2
+in-numbers-requires-2 c κs = search needs
 
 same-length : tie.Need-same-length
 same-length c = search needs
 
 returns : tie.Need-returns
 returns c =
-    let a = c .before .before .before .before .before .before .before .before .args in
-    let t = c .before .before .before .take-rs232c in
-    told-lent (a .b) (rs232c (a .link) (a .m .now) (a .area .now)) (t .result) (t .last .1 .1 .1 .0) (c .in-numbers .result) _ (t .ensures) (c .in-numbers .ensures)
-    (by-rs232c (a .b) (a .way) (a .link) (a .m .now) (a .area .now) (c .before .before .before .before .before .if1 .taken))
-
-take-kjw-requires : tie.Need-take-kjw-requires
-take-kjw-requires c κs = search needs
-
-in-numbers-requires-2 : tie.Need-in-numbers-requires-2
-in-numbers-requires-2 c κs = search needs
-
-same-length-2 : tie.Need-same-length-2
-same-length-2 c = search needs
+    let a = c .before .before .before .before .before .before .before .before .before .before .before .before .args in
+    let t = c .before .before .before .before .take in
+    through (a .b) (a .way) (a .link) (a .m .now) (a .area .now) (c .before .before .before .before .before .before .before .before .before .way-of .result) _ (t .result) _ _ (c .before .before .before .before .before .before .before .before .before .way-of .ensures) (c .before .before .before .before .before .before .before .w .given .1) (t .ensures) (c .in-numbers .ensures)
 
 returns-2 : tie.Need-returns-2
 returns-2 c =
-    let a = c .before .before .before .before .before .before .before .before .before .args in
-    let t = c .before .before .before .take-kjw in
-    told-lent (a .b) (kjw (a .link) (a .m .now) (a .area .now)) (t .result) (t .last .1 .1 .1 .0) (c .in-numbers2 .result) _ (t .ensures) (c .in-numbers2 .ensures)
-    (by-kjw (a .b) (a .way) (a .link) (a .m .now) (a .area .now) (c .before .before .before .before .before .if2 .taken))
-
-take-tcp-requires : tie.Need-take-tcp-requires
-take-tcp-requires c κs = search needs
-
-in-numbers-requires-3 : tie.Need-in-numbers-requires-3
-in-numbers-requires-3 c κs = search needs
-
-same-length-3 : tie.Need-same-length-3
-same-length-3 c = search needs
-
-returns-3 : tie.Need-returns-3
-returns-3 c =
-    let a = c .before .before .before .before .before .before .before .before .before .before .args in
-    let t = c .before .before .before .take-tcp in
-    told-lent (a .b) (tcp (a .link) (a .m .now) (a .area .now)) (t .result) (t .last .1 .1 .1 .0) (c .in-numbers3 .result) _ (t .ensures) (c .in-numbers3 .ensures)
-    (by-tcp (a .b) (a .way) (a .link) (a .m .now) (a .area .now) (c .before .before .before .before .before .if3 .taken))
-
-take-udp-requires : tie.Need-take-udp-requires
-take-udp-requires c κs = search needs
-
-in-numbers-requires-4 : tie.Need-in-numbers-requires-4
-in-numbers-requires-4 c κs = search needs
-
-returns-4 : tie.Need-returns-4
-returns-4 c =
-    let a = c .before .before .before .before .before .before .before .before .args in
-    let t = c .before .take-udp in
-    told-alone (a .b) (a .m .now) (t .result) (a .area .now) (c .in-numbers4 .result) _ (t .ensures) (c .in-numbers4 .ensures)
-    (by-udp (a .b) (a .way) (a .link) (a .m .now) (a .area .now) (c .before .before .if4 .taken))
-
-in-numbers-requires-5 : tie.Need-in-numbers-requires-5
-in-numbers-requires-5 c κs = search needs
-
-returns-5 : tie.Need-returns-5
-returns-5 c =
-    let a = c .before .before .before .before .before .before .before .args in
-    let w = by-no-way (a .b) (a .way) (a .link) (a .m .now) (a .area .now) (ne-eqb _ _ (c .before .before .before .before .if1 .left)) (ne-eqb _ _ (c .before .before .before .if2 .left)) (ne-eqb _ _ (c .before .before .if3 .left)) (ne-eqb _ _ (c .before .if4 .left)) in
-    (c .in-numbers5 .ensures ∙ ap takenOf (sym w), ap (λ (x : Called). x .area) (sym w))
+    let a = c .before .before .before .before .before .before .args in
+    let w = leads (a .b) (a .way) (a .link) (a .m .now) (a .area .now) (c .before .before .before .way-of .result) Nowhere (c .before .before .before .way-of .ensures) (c .before .enum-told .given .1) in
+    (c .in-numbers2 .ensures ∙ ap numbersOf (sym w), ap (λ (x : Called). x .area) (sym w))
 
 pub take-message-spec : {M : Type 1} → statement M
 take-message-spec =
     tie.close
     (tie.spec
-    take-rs232c-requires
+    way-of-requires
+    enum-known-w
+    take-requires
     in-numbers-requires
+    enum-told
+    in-numbers-requires-2
     same-length
     returns
-    take-kjw-requires
-    in-numbers-requires-2
-    same-length-2
-    returns-2
-    take-tcp-requires
-    in-numbers-requires-3
-    same-length-3
-    returns-3
-    take-udp-requires
-    in-numbers-requires-4
-    returns-4
-    in-numbers-requires-5
-    returns-5)
+    returns-2)

@@ -1,6 +1,6 @@
 -- `decide` does in each case what the definition says.
 use borrow.Author.Needs.{needs}
-use Rattle.kjw.specs.Rules.{decided}
+use Rattle.kjw.specs.Replies.{decided}
 use Rattle.kjw.proofs.decide.Statement.{statement}
 use Rattle.kjw.proofs.decide.Tie as tie
 

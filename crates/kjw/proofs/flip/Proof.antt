@@ -1,7 +1,7 @@
 -- `flip` goes by the definition's one test.
 use mathlib.Core.Path.{sym}
 use borrow.Author.Tests.{eq-eqb, ne-eqb}
-use Rattle.kjw.specs.Rules.{flipped}
+use Rattle.kjw.specs.Orders.{flipped}
 use Rattle.kjw.proofs.flip.Statement.{statement}
 use Rattle.kjw.proofs.flip.Tie as tie
 

@@ -1,7 +1,7 @@
 -- `notice_of` compares the two values.
 use mathlib.Core.Path.{sym}
 use borrow.Author.Needs.{needs}
-use Rattle.kjw.specs.Rules.{noticed}
+use Rattle.kjw.specs.Replies.{noticed}
 use Rattle.kjw.proofs.notice_of.Statement.{statement}
 use Rattle.kjw.proofs.notice_of.Tie as tie
 

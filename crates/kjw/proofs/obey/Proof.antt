@@ -1,6 +1,6 @@
 -- `obey` changes the one setting that the order names, as the definition does in each case.
 use borrow.Author.Needs.{needs}
-use Rattle.kjw.specs.Rules.{carried}
+use Rattle.kjw.specs.Orders.{carried}
 use Rattle.kjw.proofs.obey.Statement.{statement}
 use Rattle.kjw.proofs.obey.Tie as tie
 

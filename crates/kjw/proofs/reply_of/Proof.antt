@@ -1,6 +1,6 @@
 -- `reply_of` asks for the notice of the state that the order names.
 use borrow.Author.Needs.{needs}
-use Rattle.kjw.specs.Rules.{replyOf}
+use Rattle.kjw.specs.Replies.{replyOf}
 use Rattle.kjw.proofs.reply_of.Statement.{statement}
 use Rattle.kjw.proofs.reply_of.Tie as tie
 

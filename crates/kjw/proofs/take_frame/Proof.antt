@@ -1,14 +1,18 @@
 -- `take_frame` refuses an area that is too small, and else does what was heard and sends what the turn says.
-use Prim.Native.Nat.{ℕ}
+use Prim.Native.Nat.{ℕ, _<_, _≤_}
 use mathlib.Core.Path.{_≡_, refl}
 use mathlib.Core.List.{List}
+use native.Mathlib.Omega.{arith}
+use lib.ListN.{length}
 use borrow.Author.Needs.{needs}
 use Rattle.kjw_asks.specs.Frames.{lettersOf}
 use Rattle.kjw_asks.specs.Asks.{heardOf}
-use Rattle.kjw.specs.Rules.{decided, spelled, turnOf}
+use Rattle.kjw.specs.Replies.{decided, spelled, turnOf}
 use Rattle.panels.specs.declared.KRecord.{KRecord}
-use Rattle.kjw_asks.specs.declared.Heard.{Heard}
+use Rattle.kjw_sets.specs.declared.Heard.{Heard}
 use Rattle.kjw.specs.declared.Decided.{Decided}
+use Rattle.kjw_tells.specs.Texts.{bytesOf}
+use Rattle.kjw_tells.proofs.Lengths.{fits}
 use Rattle.turns.proofs.Turns.{takes-small, takes-turn}
 use Rattle.kjw.proofs.take_frame.Statement.{statement}
 use Rattle.kjw.proofs.take_frame.Tie as tie
@@ -18,7 +22,10 @@ unfolding turnOf
 asked k m l h t el eh et = rw (← eh, ← et, ← el)
 
 returns : tie.Need-returns
-returns c = takes-small (turnOf (c .before .before .before .args .m .now)) (c .before .before .before .args .k) (c .before .before .before .args .area .now) (c .if1 .taken)
+returns c =
+    let a = c .before .before .before .args in
+    let small : length (a .area .now) < 512 = omega arith in
+    takes-small (turnOf (a .m .now)) (a .k) (a .area .now) small
 
 letters-of-requires : tie.Need-letters-of-requires
 letters-of-requires c κs = search needs
@@ -38,9 +45,12 @@ same-length c = search needs
 returns-2 : tie.Need-returns-2
 returns-2 c =
     let a = c .before .before .before .before .before .before .before .before .before .before .before .args in
-    takes-turn (turnOf (a .m .now)) (a .k) (a .area .now) _ _ _ _ _ (c .before .before .before .before .before .before .before .before .if1 .left)
-    (asked (a .k) (a .m .now) (c .before .before .before .before .before .before .before .letters-of .result) (c .before .before .before .before .before .before .hear .result) (c .before .before .before .before .before .decide .result) (c .before .before .before .before .before .before .before .letters-of .ensures) (c .before .before .before .before .before .before .hear .ensures) (c .before .before .before .before .before .decide .ensures))
-    refl refl (c .before .before .send .ensures)
+    let room : 512 ≤ length (a .area .now) = omega (arith, c .before .before .before .before .before .before .before .before .if1 .left) in
+    let l = c .before .before .before .before .before .before .before .letters-of in
+    let h = c .before .before .before .before .before .before .hear in
+    let t = c .before .before .before .before .before .decide in
+    let sends = rw (fits (length (a .area .now)) (bytesOf (t .result .reply) (t .result .k) (l .result)) (omega (arith, room))) at (c .before .before .send .ensures) in
+    takes-turn (turnOf (a .m .now)) (a .k) (a .area .now) _ _ _ _ _ room (asked (a .k) (a .m .now) (l .result) (h .result) (t .result) (l .ensures) (h .ensures) (t .ensures)) refl refl sends
 
 pub take-frame-spec : {M : Type 1} → statement M
 take-frame-spec =

@@ -2,6 +2,7 @@
 use mathlib.Core.Path.{sym}
 use borrow.Author.Tests.{eq-eqb, ne-eqb, lt-ltb, le-ltb}
 use borrow.Author.Needs.{needs}
+use native.Mathlib.Omega.{arith}
 use Rattle.rs232c_asks.specs.Asks.{isForeign}
 use Rattle.rs232c_asks.proofs.is_foreign.Statement.{statement}
 use Rattle.rs232c_asks.proofs.is_foreign.Tie as tie
@@ -25,11 +26,11 @@ byte-at-requires-3 c κs = search needs
 
 returns-3 : tie.Need-returns-3
 unfolding isForeign
-returns-3 c = sym (rw (← c .before .before .before .before .before .byte-at .ensures, eq-eqb _ _ (c .before .before .before .before .if1 .left), ← c .before .before .before .byte-at2 .ensures, eq-eqb _ _ (c .before .before .if2 .left), ← c .before .byte-at3 .ensures, lt-ltb _ _ (c .if3 .taken)))
+returns-3 c = sym (rw (← c .before .before .before .before .before .byte-at .ensures, eq-eqb _ _ (c .before .before .before .before .if1 .left), ← c .before .before .before .byte-at2 .ensures, eq-eqb _ _ (c .before .before .if2 .left), ← c .before .byte-at3 .ensures, lt-ltb (c .before .byte-at3 .result) 0x41 (omega arith)))
 
 returns-4 : tie.Need-returns-4
 unfolding isForeign
-returns-4 c = sym (rw (← c .before .before .before .before .before .byte-at .ensures, eq-eqb _ _ (c .before .before .before .before .if1 .left), ← c .before .before .before .byte-at2 .ensures, eq-eqb _ _ (c .before .before .if2 .left), ← c .before .byte-at3 .ensures, le-ltb _ _ (c .if3 .left)))
+returns-4 c = sym (rw (← c .before .before .before .before .before .byte-at .ensures, eq-eqb _ _ (c .before .before .before .before .if1 .left), ← c .before .before .before .byte-at2 .ensures, eq-eqb _ _ (c .before .before .if2 .left), ← c .before .byte-at3 .ensures, le-ltb (c .before .byte-at3 .result) 0x41 (omega arith)))
 
 pub is-foreign-spec : {M : Type 1} → statement M
 is-foreign-spec =

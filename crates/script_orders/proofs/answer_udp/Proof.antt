@@ -1,6 +1,6 @@
 -- `answer_udp` hands on the bytes that the line writes, and writes the answer alone.
 use mathlib.Core.Path.{subst, ap, _∙_}
-use mathlib.Core.List.{List}
+use mathlib.Core.List.{List, []}
 use Prim.Native.Nat.{ℕ}
 use Rattle.steps.specs.Messages.{udp}
 use Rattle.steps.specs.Step.{step}
@@ -17,11 +17,14 @@ bytes-at-requires c κs = search needs
 array-share-prefix-bytes : tie.Need-array-share-prefix-bytes
 array-share-prefix-bytes c = front-fits (c .bytes-at .ensures)
 
-slice-aggregate-take-udp : tie.Need-slice-aggregate-take-udp
-slice-aggregate-take-udp c = front-length (c .before .bytes-at .ensures)
+slice-aggregate-take : tie.Need-slice-aggregate-take
+slice-aggregate-take c = front-length (c .before .bytes-at .ensures)
 
-take-udp-requires : tie.Need-take-udp-requires
-take-udp-requires c κs = search needs
+slice-aggregate-take-2 : tie.Need-slice-aggregate-take-2
+slice-aggregate-take-2 c = search needs
+
+take-requires : tie.Need-take-requires
+take-requires c κs = search needs
 
 slice-aggregate-say-answer : tie.Need-slice-aggregate-say-answer
 slice-aggregate-say-answer c = search needs
@@ -34,9 +37,10 @@ same-length c = search needs
 
 returns : tie.Need-returns
 returns c =
-    let a = c .before .before .before .before .before .before .before .before .before .before .before .before .args in
+    let a = c .before .before .before .before .before .before .before .before .before .before .before .before .before .before .args in
     let r = c .before .before .say-answer in
-    let e = spread-text (c .before .before .before .before .before .before .take-udp .ensures) ∙ ap (λ (m : List ℕ). spread (step (a .b) (udp m))) (front (c .before .before .before .before .before .before .before .before .bytes-at .ensures)) in
+    let t = c .before .before .before .before .before .before .before .take in
+    let e = spread-text (a .b) 0 _ [] (t .result) (t .ensures .0) ∙ ap (λ (m : List ℕ). spread (step (a .b) (udp m))) (front (c .before .before .before .before .before .before .before .before .before .before .bytes-at .ensures)) in
     subst (λ (o : Effect). Answers o (r .result) (a .out .now) (r .last .1 .0)) e (r .ensures)
 
 pub answer-udp-spec : {M : Type 1} → statement M
@@ -45,8 +49,9 @@ answer-udp-spec =
     (tie.spec
     bytes-at-requires
     array-share-prefix-bytes
-    slice-aggregate-take-udp
-    take-udp-requires
+    slice-aggregate-take
+    slice-aggregate-take-2
+    take-requires
     slice-aggregate-say-answer
     say-answer-requires
     same-length

@@ -1,16 +1,19 @@
 -- `carry` lends the area to the way in, and writes what the step left there.
 use mathlib.Core.Path.{subst}
 use Rattle.script_orders.specs.Answers.{Answers, Effect}
-use Rattle.script_orders.proofs.Carried.{carried-fits, carried-text}
+use Rattle.script_orders.proofs.Carried.{carried-fits, carried-text, linked-steps}
 use borrow.Author.Needs.{needs}
 use Rattle.script_orders.proofs.carry.Statement.{statement}
 use Rattle.script_orders.proofs.carry.Tie as tie
 
-take-message-requires : tie.Need-take-message-requires
-take-message-requires c κs = search needs
+take-requires : tie.Need-take-requires
+take-requires c κs = search needs
 
 say-reply-requires : tie.Need-say-reply-requires
-say-reply-requires c κs = carried-fits (c .before .before .before .before .before .take-message .ensures)
+say-reply-requires c κs =
+    let a = c .before .before .before .before .before .before .before .before .before .before .args in
+    let t = c .before .before .before .before .before .take in
+    carried-fits (linked-steps (a .b) (a .line) (a .link) (a .m .now) (a .area .now) (t .result) _ (t .ensures))
 
 same-length : tie.Need-same-length
 same-length c = search needs
@@ -22,13 +25,14 @@ returns : tie.Need-returns
 returns c =
     let a = c .before .before .before .before .before .before .before .before .before .before .before .before .before .args in
     let r = c .before .before .say-reply in
-    subst (λ (o : Effect). Answers o (r .result) (a .out .now) (r .last .1 .1 .1 .1 .0)) (carried-text (c .before .before .before .before .before .before .before .before .take-message .ensures)) (r .ensures)
+    let t = c .before .before .before .before .before .before .before .before .take in
+    subst (λ (o : Effect). Answers o (r .result) (a .out .now) (r .last .1 .1 .1 .1 .0)) (carried-text (linked-steps (a .b) (a .line) (a .link) (a .m .now) (a .area .now) (t .result) _ (t .ensures))) (r .ensures)
 
 pub carry-spec : {M : Type 1} → statement M
 carry-spec =
     tie.close
     (tie.spec
-    take-message-requires
+    take-requires
     say-reply-requires
     same-length
     same-length-2

@@ -104,7 +104,7 @@ returns-3 c =
     let n = next-behind p (a .from) (omega (arith, e, t, i, f, d, z)) in
     record {
       kept-is = subst (λ (l : List ℕ). Puts l (a .store .now) (a .kept) (u .last .0) (u .result)) (line p (a .from) (b .result) z) (u .ensures);
-      next-is = ap (λ (k : ℕ). k + 1) e ∙ sym (n .0);
+      next-is = let m = n .0 in omega (arith, e, m);
       ended-is = sym (n .1);
     }
 

@@ -1,21 +1,22 @@
--- `put_w` puts its five parts one behind the other.
+-- `put_w` puts its parts one behind the other.
+use mathlib.Core.List.{[], _∷_}
+use mathlib.Core.Path.{refl}
 use borrow.Author.Needs.{needs}
+use Rattle.laws.specs.Bytes.{ascii}
+use Rattle.script_forms.proofs.Forms.{forms}
+use Rattle.script_text.proofs.Puts.{puts-as, puts-then}
 use Rattle.script_show.specs.Shown.{wText}
-use Rattle.script_text.proofs.Puts.{puts-then}
 use Rattle.script_show.proofs.put_w.Statement.{statement}
 use Rattle.script_show.proofs.put_w.Tie as tie
 
-slice-aggregate-put-number-text : tie.Need-slice-aggregate-put-number-text
-slice-aggregate-put-number-text c = search needs
+slice-aggregate-put-numbers : tie.Need-slice-aggregate-put-numbers
+slice-aggregate-put-numbers c = search needs
 
-put-number-text-requires : tie.Need-put-number-text-requires
-put-number-text-requires c κs = search needs
+slice-aggregate-put-numbers-2 : tie.Need-slice-aggregate-put-numbers-2
+slice-aggregate-put-numbers-2 c = search needs
 
-slice-aggregate-put-number-text-2 : tie.Need-slice-aggregate-put-number-text-2
-slice-aggregate-put-number-text-2 c = search needs
-
-put-number-text-requires-2 : tie.Need-put-number-text-requires-2
-put-number-text-requires-2 c κs = search needs
+put-numbers-requires : tie.Need-put-numbers-requires
+put-numbers-requires c κs = search needs
 
 put-settings-requires : tie.Need-put-settings-requires
 put-settings-requires c κs = search needs
@@ -32,20 +33,19 @@ same-length c = search needs
 returns : tie.Need-returns
 unfolding wText
 returns c =
-    let fifth = c .before .before in
-    let fourth = fifth .before .before .before .before in
-    let third = fourth .before .before .before .before in
-    let second = third .before .before .before .before in
-    puts-then (puts-then (puts-then (puts-then (second .before .before .before .before .before .put-number-text .ensures) (second .put-number-text2 .ensures)) (third .put-settings .ensures)) (fourth .put-inputs .ensures)) (fifth .put-balance .ensures)
+    let balance = c .before .before in
+    let inputs = balance .before .before .before .before in
+    let settings = inputs .before .before .before .before in
+    let ids = puts-as (forms [] (ascii "W " ∷ ascii " " ∷ []) _ refl refl) (settings .before .before .before .before .put-numbers .ensures) in
+    puts-then (puts-then (puts-then ids (settings .put-settings .ensures)) (inputs .put-inputs .ensures)) (balance .put-balance .ensures)
 
 pub put-w-spec : {M : Type 1} → statement M
 put-w-spec =
     tie.close
     (tie.spec
-    slice-aggregate-put-number-text
-    put-number-text-requires
-    slice-aggregate-put-number-text-2
-    put-number-text-requires-2
+    slice-aggregate-put-numbers
+    slice-aggregate-put-numbers-2
+    put-numbers-requires
     put-settings-requires
     put-inputs-requires
     put-balance-requires

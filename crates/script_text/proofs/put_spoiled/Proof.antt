@@ -6,14 +6,14 @@ use Rattle.script_text.proofs.Puts.{puts-none}
 use Rattle.script_text.proofs.put_spoiled.Statement.{statement}
 use Rattle.script_text.proofs.put_spoiled.Tie as tie
 
-is-untouched-requires : tie.Need-is-untouched-requires
-is-untouched-requires c κs = search needs
+all-are-requires : tie.Need-all-are-requires
+all-are-requires c κs = search needs
 
 returns : tie.Need-returns
 unfolding spoiledBy
 returns c =
     let a = c .before .before .before .before .args in
-    rw (sym (c .before .is-untouched .ensures) ∙ c .if1 .taken) (puts-none (a .out .now) (a .at))
+    rw (sym (c .before .all-are .ensures) ∙ c .if1 .taken) (puts-none (a .out .now) (a .at))
 
 slice-aggregate-put : tie.Need-slice-aggregate-put
 slice-aggregate-put c = search needs
@@ -28,9 +28,9 @@ returns-2 : tie.Need-returns-2
 unfolding spoiledBy
 returns-2 c =
     let t = c .before .before .before .before .before in
-    rw (sym (t .before .is-untouched .ensures) ∙ t .if1 .left) (c .before .before .put .ensures)
+    rw (sym (t .before .all-are .ensures) ∙ t .if1 .left) (c .before .before .put .ensures)
 
 pub put-spoiled-spec : {M : Type 1} → statement M
 put-spoiled-spec =
     tie.close
-    (tie.spec is-untouched-requires returns slice-aggregate-put put-requires same-length returns-2)
+    (tie.spec all-are-requires returns slice-aggregate-put put-requires same-length returns-2)

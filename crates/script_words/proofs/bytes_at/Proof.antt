@@ -7,7 +7,8 @@ use lib.ListN.{drop, length, take}
 use borrow.Author.Needs.{needs}
 use borrow.Author.Tests.{not-false, not-true}
 use Rattle.laws.specs.Bytes.{Sent, sent}
-use Rattle.script_words.specs.Words.{bytesIn, isHex}
+use Rattle.script_words.specs.Words.{bytesIn}
+use Rattle.script_hex.specs.Hex.{isHex}
 use Rattle.script_words.proofs.Hex.{hex-bytes, hex-fits, no-bytes}
 use Rattle.script_words.proofs.Words.{word-part}
 use Rattle.script_words.proofs.bytes_at.Statement.{statement}

@@ -7,10 +7,12 @@ use lib.ListN.{length, getD}
 use borrow.Author.Needs.{needs}
 use native.Mathlib.Omega.{arith}
 use Rattle.laws.specs.Bytes.{same}
-use Rattle.setting_words.specs.Names.{wordsOf, wordOf, firstOf, chosenBy}
+use Rattle.setting_texts.specs.Names.{wordsOf, wordOf}
+use Rattle.setting_words.specs.Names.{firstOf, chosenBy}
 use Rattle.setting_words.specs.Rows.{meets}
-use Rattle.setting_words.proofs.Choices.{no-words}
-use Rattle.setting_words.proofs.Rules.{firsts, count-is, words-fit, word-row}
+use Rattle.setting_texts.proofs.Sizes.{no-words}
+use Rattle.setting_texts.proofs.Rules.{firsts, count-is, words-fit}
+use Rattle.setting_words.proofs.Rules.{word-row}
 use Rattle.setting_words.proofs.Search.{first-same}
 use Rattle.setting_words.proofs.chosen.Statement.{statement}
 use Rattle.setting_words.proofs.chosen.Tie as tie

@@ -5,7 +5,8 @@ use lib.ListN.{getD}
 use borrow.Author.Needs.{needs}
 use native.Mathlib.Omega.{arith}
 use Rattle.setting_words.specs.Names.{firstOf}
-use Rattle.setting_words.specs.Rows.{rows, initials, meets}
+use Rattle.setting_texts.specs.Rows.{rows}
+use Rattle.setting_words.specs.Rows.{initials, meets}
 use Rattle.setting_words.proofs.Search.{first-start, first-yes, first-no, first-end}
 use Rattle.setting_words.proofs.find.Statement.{statement}
 use Rattle.setting_words.proofs.find.Tie as tie

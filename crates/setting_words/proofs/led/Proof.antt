@@ -5,9 +5,10 @@ use mathlib.Core.Bool.{false}
 use mathlib.Core.List.{List}
 use borrow.Author.Needs.{needs}
 use Rattle.laws.specs.Bytes.{begins}
-use Rattle.setting_words.specs.Names.{leadOf, ledBy}
+use Rattle.setting_texts.specs.Names.{leadOf}
+use Rattle.setting_words.specs.Names.{ledBy}
 use Rattle.setting_words.specs.Rows.{meets}
-use Rattle.setting_words.proofs.Rules.{lead-row}
+use Rattle.setting_texts.proofs.Rules.{lead-row}
 use Rattle.setting_words.proofs.Search.{first-same}
 use Rattle.setting_words.proofs.led.Statement.{statement}
 use Rattle.setting_words.proofs.led.Tie as tie

@@ -5,7 +5,8 @@ use mathlib.Core.Bool.{true}
 use mathlib.Core.List.{List}
 use borrow.Author.Needs.{needs}
 use Rattle.laws.specs.Bytes.{same}
-use Rattle.setting_words.specs.Names.{nameOf, namedBy}
+use Rattle.setting_texts.specs.Names.{nameOf}
+use Rattle.setting_words.specs.Names.{namedBy}
 use Rattle.setting_words.specs.Rows.{meets}
 use Rattle.setting_words.proofs.Rules.{name-row}
 use Rattle.setting_words.proofs.Search.{first-same}

@@ -9,8 +9,10 @@ use native.Mathlib.Omega.{arith}
 use Rattle.laws.specs.Bytes.{begins, same}
 use Rattle.laws.proofs.Lists.{other-length}
 use Rattle.laws.proofs.Texts.{begins-same}
-use Rattle.setting_words.specs.Rows.{textOf, bareOf, meets}
-use Rattle.setting_words.proofs.Rules.{bare-front, bare-fits, bare-length, text-length}
+use Rattle.setting_texts.specs.Rows.{textOf}
+use Rattle.setting_words.specs.Rows.{bareOf, meets}
+use Rattle.setting_words.proofs.Rules.{bare-front, bare-fits, bare-length}
+use Rattle.setting_texts.proofs.Rules.{text-length}
 use Rattle.setting_words.proofs.row_agrees.Statement.{statement}
 use Rattle.setting_words.proofs.row_agrees.Tie as tie
 

@@ -9,8 +9,9 @@ use borrow.Author.Needs.{needs}
 use native.Mathlib.Omega.{arith}
 use Rattle.laws.specs.Bytes.{begins}
 use Rattle.laws.proofs.Texts.{begins-from, begins-ended, begins-whole}
-use Rattle.setting_words.specs.Rows.{textOf, rows}
-use Rattle.setting_words.proofs.Rules.{text-short, byte-is}
+use Rattle.setting_texts.specs.Rows.{textOf, rows}
+use Rattle.setting_texts.proofs.Rules.{text-short}
+use Rattle.setting_words.proofs.Rules.{byte-is}
 use Rattle.setting_words.proofs.row_begins.Statement.{statement}
 use Rattle.setting_words.proofs.row_begins.Tie as tie
 

@@ -8,7 +8,8 @@ use native.Mathlib.Omega.{arith}
 use Rattle.laws.specs.Bytes.{begins}
 use Rattle.laws.proofs.Lists.{rest}
 use Rattle.laws.proofs.Texts.{begins-fits}
-use Rattle.setting_words.specs.Names.{leadOf, ledBy}
+use Rattle.setting_texts.specs.Names.{leadOf}
+use Rattle.setting_words.specs.Names.{ledBy}
 use Rattle.setting_words.specs.declared.Found.the-variants.{At}
 use Rattle.setting_words.proofs.Search.{Right}
 use Rattle.setting_words.proofs.Choices.{led-right}

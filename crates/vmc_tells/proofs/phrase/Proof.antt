@@ -4,8 +4,8 @@ use Prim.Native.Nat.{_+_, _≤_}
 use lib.ListN.{length}
 use borrow.Author.Needs.{needs}
 use native.Mathlib.Omega.{arith}
-use Rattle.setting_words.specs.Names.{leadOf}
-use Rattle.setting_words.proofs.Choices.{short-lead}
+use Rattle.setting_texts.specs.Names.{leadOf}
+use Rattle.setting_texts.proofs.Sizes.{short-lead}
 use Rattle.vmc_tells.proofs.Phrases.{two-parts}
 use Rattle.vmc_tells.proofs.phrase.Statement.{statement}
 use Rattle.vmc_tells.proofs.phrase.Tie as tie

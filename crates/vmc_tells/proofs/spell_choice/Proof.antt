@@ -6,8 +6,8 @@ use lib.ListN.{length, take, replicate}
 use borrow.Author.Needs.{needs}
 use native.Mathlib.Omega.{arith}
 use Rattle.laws.specs.Bytes.{laid}
-use Rattle.setting_words.specs.Names.{leadOf, wordOf}
-use Rattle.setting_words.proofs.Choices.{short-word}
+use Rattle.setting_texts.specs.Names.{leadOf, wordOf}
+use Rattle.setting_texts.proofs.Sizes.{short-word}
 use Rattle.vmc_tells.specs.Texts.{textual}
 use Rattle.vmc_tells.proofs.Phrases.{front}
 use Rattle.vmc_tells.proofs.spell_choice.Statement.{statement}

@@ -15,24 +15,29 @@ use Rattle.steps.specs.Addressing.{anyCalled}
 use Rattle.steps.specs.Step.{withPanels, toNobody, nothing, step}
 use Rattle.ways_in.specs.Promise.{Steps}
 use Rattle.ways_in.specs.declared.Outcome.{Outcome}
-use Rattle.steps.proofs.Refusals.{bad-udp}
 use Rattle.ways_in.proofs.Calls.{uncalled, idle, refusing, broken, strange, obeyed}
 use Rattle.steps.proofs.Validity.{valid-names}
-use Rattle.ways_in.proofs.Links.{valid-count}
+use Rattle.ways_in.proofs.Doors.{valid-count, called-read, called-valid}
 use Rattle.ways_in.proofs.Stores.{steps, refuses}
+use Rattle.box_rules.specs.Pairs.{judged}
+use Rattle.box_rules.specs.declared.Judged.{Judged}
+use Rattle.addresses.specs.Doors.{idName}
 use Rattle.ways_in.proofs.take_udp.Statement.{statement}
 use Rattle.ways_in.proofs.take_udp.Tie as tie
-
--- some panel is called
-some : (b : DisplayBox) (m : List ℕ) (x y : Bool) → x ≡ valid b → x ≡ true → y ≡ anyCalled m (map nameOf (take (b .count) (b .panels))) → y ≡ true → anyCalled m (names b) ≡ true
-some b m x y e f g h = ap (anyCalled m) (valid-names b (sym e ∙ f)) ∙ sym g ∙ h
 
 -- the box rests as it was, with an answer
 rests : (b : DisplayBox) (m : List ℕ) (a : Answer) (r : Outcome) → step b (udp m) ≡ record { box = b; answer = a; back = nothing } → r ≡ record { after = b; answer = a; len = 0 } → Steps b (udp m) r []
 rests b m a r e f = steps b (udp m) r [] (record { box = b; answer = a; back = nothing }) e (ap (λ (x : Outcome). x .after) f) (ap (λ (x : Outcome). x .answer) f) (ap (λ (x : Outcome). x .len) f) refl
 
-is-valid-requires : tie.Need-is-valid-requires
-is-valid-requires c κs = search needs
+-- somebody is called, read off the IDs
+some : (b : DisplayBox) (m : List ℕ) (j : Judged) (y : Bool) → j ≡ judged b → y ≡ anyCalled m (map idName (j .ids)) → y ≡ true → anyCalled m (names b) ≡ true
+some b m j y e g h = sym (called-read b m j e) ∙ sym g ∙ h
+
+judge-requires : tie.Need-judge-requires
+judge-requires c κs = search needs
+
+any-called-requires : tie.Need-any-called-requires
+any-called-requires c κs = search needs
 
 to-nobody-requires : tie.Need-to-nobody-requires
 to-nobody-requires c κs = search needs
@@ -42,24 +47,11 @@ refused-requires c κs = search needs
 
 returns : tie.Need-returns
 returns c =
-    let a = c .before .before .before .before .before .args in
-    refuses (a .b) (udp (a .m .now)) [] (toNobody (a .m .now)) _ (bad-udp (a .b) (a .m .now) (sym (c .before .before .before .is-valid .ensures) ∙ not-true (c .before .before .before .is-valid .result) (c .before .before .if1 .taken))) (c .refused .ensures ∙ rw (c .before .to-nobody .ensures)) refl
-
-any-called-requires : tie.Need-any-called-requires
-any-called-requires c κs = valid-count (c .before .before .before .before .args .b) (sym (c .before .before .is-valid .ensures) ∙ not-false (c .before .before .is-valid .result) (c .before .if1 .left))
-
-to-nobody-requires-2 : tie.Need-to-nobody-requires-2
-to-nobody-requires-2 c κs = search needs
-
-refused-requires-2 : tie.Need-refused-requires-2
-refused-requires-2 c κs = search needs
-
-returns-2 : tie.Need-returns-2
-returns-2 c =
-    let a = c .before .before .before .before .before .before .before .before .args in
-    let v : valid (a .b) ≡ true = sym (c .before .before .before .before .before .before .is-valid .ensures) ∙ not-false (c .before .before .before .before .before .before .is-valid .result) (c .before .before .before .before .before .if1 .left) in
-    let n : anyCalled (a .m .now) (names (a .b)) ≡ false = ap (anyCalled (a .m .now)) (valid-names (a .b) v) ∙ sym (c .before .before .before .any-called .ensures) ∙ not-true (c .before .before .before .any-called .result) (c .before .before .if2 .taken) in
-    refuses (a .b) (udp (a .m .now)) [] (toNobody (a .m .now)) _ (uncalled (a .b) (a .m .now) n) (c .refused2 .ensures ∙ rw (c .before .to-nobody2 .ensures)) refl
+    let a = c .before .before .before .before .before .before .before .args in
+    let j = c .before .before .before .before .before .judge in
+    let q = c .before .before .before .any-called in
+    let n : anyCalled (a .m .now) (names (a .b)) ≡ false = sym (called-read (a .b) (a .m .now) (j .result) (j .ensures)) ∙ sym (q .ensures) ∙ not-true (q .result) (c .before .before .if1 .taken) in
+    refuses (a .b) (udp (a .m .now)) [] (toNobody (a .m .now)) _ (uncalled (a .b) (a .m .now) n) (c .refused .ensures ∙ rw (c .before .to-nobody .ensures)) refl
 
 hear-requires : tie.Need-hear-requires
 hear-requires c κs = search needs
@@ -67,74 +59,82 @@ hear-requires c κs = search needs
 enum-known-answer : tie.Need-enum-known-answer
 enum-known-answer c = search needs
 
-refused-requires-3 : tie.Need-refused-requires-3
-refused-requires-3 c κs = search needs
+refused-requires-2 : tie.Need-refused-requires-2
+refused-requires-2 c κs = search needs
 
 enum-told : tie.Need-enum-told
 enum-told c = search needs
 
-refused-requires-4 : tie.Need-refused-requires-4
-refused-requires-4 c κs = search needs
+refused-requires-3 : tie.Need-refused-requires-3
+refused-requires-3 c κs = search needs
 
 enum-told-2 : tie.Need-enum-told-2
 enum-told-2 c = search needs
 
-refused-requires-5 : tie.Need-refused-requires-5
-refused-requires-5 c κs = search needs
+refused-requires-4 : tie.Need-refused-requires-4
+refused-requires-4 c κs = search needs
 
 enum-known-o : tie.Need-enum-known-o
 enum-known-o c = search needs
 
 obey-all-requires : tie.Need-obey-all-requires
-obey-all-requires c κs = valid-count (c .before .before .before .before .before .before .before .before .before .before .args .b) (sym (c .before .before .before .before .before .before .before .before .is-valid .ensures) ∙ not-false (c .before .before .before .before .before .before .before .before .is-valid .result) (c .before .before .before .before .before .before .before .if1 .left))
+obey-all-requires c κs =
+    let a = c .before .before .before .before .before .before .before .before .before .before .args in
+    let j = c .before .before .before .before .before .before .before .before .judge in
+    let q = c .before .before .before .before .before .before .any-called in
+    valid-count (a .b) (called-valid (a .b) (a .m .now) (some (a .b) (a .m .now) (j .result) (q .result) (j .ensures) (q .ensures) (not-false (q .result) (c .before .before .before .before .before .if1 .left))))
+
+returns-2 : tie.Need-returns-2
+returns-2 c =
+    let a = c .before .before .before .before .before .before .before .before .before .before .args in
+    let j = c .before .before .before .before .before .before .before .before .judge in
+    let q = c .before .before .before .before .before .before .any-called in
+    let n = some (a .b) (a .m .now) (j .result) (q .result) (j .ensures) (q .ensures) (not-false (q .result) (c .before .before .before .before .before .if1 .left)) in
+    rests (a .b) (a .m .now) _ _ (idle (a .b) (a .m .now) _ n (sym (c .before .before .before .before .hear .ensures) ∙ c .before .before .answer .given .1) (refusing (c .before .before .answer .given .0 .0))) (c .refused2 .ensures)
 
 returns-3 : tie.Need-returns-3
 returns-3 c =
-    let a = c .before .before .before .before .before .before .before .before .before .before .before .args in
-    let n = some (a .b) (a .m .now) (c .before .before .before .before .before .before .before .before .before .is-valid .result) (c .before .before .before .before .before .before .any-called .result) (c .before .before .before .before .before .before .before .before .before .is-valid .ensures) (not-false (c .before .before .before .before .before .before .before .before .before .is-valid .result) (c .before .before .before .before .before .before .before .before .if1 .left)) (c .before .before .before .before .before .before .any-called .ensures) (not-false (c .before .before .before .before .before .before .any-called .result) (c .before .before .before .before .before .if2 .left)) in
-    rests (a .b) (a .m .now) _ _ (idle (a .b) (a .m .now) _ n (sym (c .before .before .before .before .hear .ensures) ∙ c .before .before .answer .given .1) (refusing (c .before .before .answer .given .0 .0))) (c .refused3 .ensures)
+    let a = c .before .before .before .before .before .before .before .before .before .args in
+    let j = c .before .before .before .before .before .before .before .judge in
+    let q = c .before .before .before .before .before .any-called in
+    let n = some (a .b) (a .m .now) (j .result) (q .result) (j .ensures) (q .ensures) (not-false (q .result) (c .before .before .before .before .if1 .left)) in
+    rests (a .b) (a .m .now) _ _ (idle (a .b) (a .m .now) _ n (sym (c .before .before .before .hear .ensures) ∙ c .before .enum-told .given .1) broken) (c .refused3 .ensures)
 
 returns-4 : tie.Need-returns-4
 returns-4 c =
-    let a = c .before .before .before .before .before .before .before .before .before .before .args in
-    let n = some (a .b) (a .m .now) (c .before .before .before .before .before .before .before .before .is-valid .result) (c .before .before .before .before .before .any-called .result) (c .before .before .before .before .before .before .before .before .is-valid .ensures) (not-false (c .before .before .before .before .before .before .before .before .is-valid .result) (c .before .before .before .before .before .before .before .if1 .left)) (c .before .before .before .before .before .any-called .ensures) (not-false (c .before .before .before .before .before .any-called .result) (c .before .before .before .before .if2 .left)) in
-    rests (a .b) (a .m .now) _ _ (idle (a .b) (a .m .now) _ n (sym (c .before .before .before .hear .ensures) ∙ c .before .enum-told .given .1) broken) (c .refused4 .ensures)
+    let a = c .before .before .before .before .before .before .before .before .before .args in
+    let j = c .before .before .before .before .before .before .before .judge in
+    let q = c .before .before .before .before .before .any-called in
+    let n = some (a .b) (a .m .now) (j .result) (q .result) (j .ensures) (q .ensures) (not-false (q .result) (c .before .before .before .before .if1 .left)) in
+    rests (a .b) (a .m .now) _ _ (idle (a .b) (a .m .now) _ n (sym (c .before .before .before .hear .ensures) ∙ c .before .enum-told2 .given .1) strange) (c .refused4 .ensures)
 
 returns-5 : tie.Need-returns-5
 returns-5 c =
-    let a = c .before .before .before .before .before .before .before .before .before .before .args in
-    let n = some (a .b) (a .m .now) (c .before .before .before .before .before .before .before .before .is-valid .result) (c .before .before .before .before .before .any-called .result) (c .before .before .before .before .before .before .before .before .is-valid .ensures) (not-false (c .before .before .before .before .before .before .before .before .is-valid .result) (c .before .before .before .before .before .before .before .if1 .left)) (c .before .before .before .before .before .any-called .ensures) (not-false (c .before .before .before .before .before .any-called .result) (c .before .before .before .before .if2 .left)) in
-    rests (a .b) (a .m .now) _ _ (idle (a .b) (a .m .now) _ n (sym (c .before .before .before .hear .ensures) ∙ c .before .enum-told2 .given .1) strange) (c .refused5 .ensures)
-
-returns-6 : tie.Need-returns-6
-returns-6 c =
     let a = c .before .before .before .before .before .before .before .before .before .before .before .args in
-    let v : valid (a .b) ≡ true = sym (c .before .before .before .before .before .before .before .before .before .is-valid .ensures) ∙ not-false (c .before .before .before .before .before .before .before .before .before .is-valid .result) (c .before .before .before .before .before .before .before .before .if1 .left) in
-    let n = some (a .b) (a .m .now) (c .before .before .before .before .before .before .before .before .before .is-valid .result) (c .before .before .before .before .before .before .any-called .result) (c .before .before .before .before .before .before .before .before .before .is-valid .ensures) (not-false (c .before .before .before .before .before .before .before .before .before .is-valid .result) (c .before .before .before .before .before .before .before .before .if1 .left)) (c .before .before .before .before .before .before .any-called .ensures) (not-false (c .before .before .before .before .before .before .any-called .result) (c .before .before .before .before .before .if2 .left)) in
-    steps (a .b) (udp (a .m .now)) _ [] _ (obeyed (a .b) (a .m .now) (c .before .before .o .given .0 .0) v n (sym (c .before .before .before .before .hear .ensures) ∙ c .before .before .o .given .1)) (ap (λ (ps : List Panel). withPanels (a .b) ps) (c .obey-all .ensures)) refl refl refl
+    let j = c .before .before .before .before .before .before .before .before .before .judge in
+    let q = c .before .before .before .before .before .before .before .any-called in
+    let n = some (a .b) (a .m .now) (j .result) (q .result) (j .ensures) (q .ensures) (not-false (q .result) (c .before .before .before .before .before .before .if1 .left)) in
+    steps (a .b) (udp (a .m .now)) _ [] _ (obeyed (a .b) (a .m .now) (c .before .before .before .o .given .0 .0) (called-valid (a .b) (a .m .now) n) n (sym (c .before .before .before .before .before .hear .ensures) ∙ c .before .before .before .o .given .1)) (ap (λ (ps : List Panel). withPanels (a .b) ps) (c .obey-all .ensures)) refl refl refl
 
 pub take-udp-spec : {M : Type 1} → statement M
 take-udp-spec =
     tie.close
     (tie.spec
-    is-valid-requires
+    judge-requires
+    any-called-requires
     to-nobody-requires
     refused-requires
     returns
-    any-called-requires
-    to-nobody-requires-2
-    refused-requires-2
-    returns-2
     hear-requires
     enum-known-answer
-    refused-requires-3
+    refused-requires-2
     enum-told
-    refused-requires-4
+    refused-requires-3
     enum-told-2
-    refused-requires-5
+    refused-requires-4
     enum-known-o
     obey-all-requires
+    returns-2
     returns-3
     returns-4
-    returns-5
-    returns-6)
+    returns-5)

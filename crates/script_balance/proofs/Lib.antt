@@ -1,0 +1,3 @@
+pub mod Determined
+pub mod Lines
+pub mod Examples

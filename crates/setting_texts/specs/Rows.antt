@@ -1,0 +1,23 @@
+-- For the contracts of the code alone, no sentence of the document: the texts in the order in which the code holds them, the names with what parts them from their values, then the values' words.
+use Prim.Native.Nat.{ℕ, _-_}
+use mathlib.Core.List.{List, [], _∷_, _++_}
+use lib.ListN.{length, getD, replicate}
+use Rattle.laws.specs.Bytes.{ascii}
+use Rattle.setting_texts.specs.Names.{leads}
+
+-- OFF and ON; FULL and LIMITED; NTSC's two; MODE's three
+abbrev pub values : List (List ℕ)
+values =
+    ascii "OFF" ∷ ascii "ON" ∷ ascii "FULL" ∷ ascii "LIMITED" ∷
+    ascii "0" ∷ ascii "75" ∷ ascii "0" ∷ ascii "1" ∷ ascii "2" ∷ []
+
+abbrev pub textOf : ℕ → List ℕ
+textOf row = getD (leads ++ values) row []
+
+-- the texts in rows of 13 places, as the code holds them
+abbrev pub laid : List (List ℕ) → List ℕ
+laid [] = []
+laid (t ∷ ts) = t ++ (replicate (13 - length t) 95 ++ laid ts)
+
+abbrev pub rows : List ℕ
+rows = laid (leads ++ values)

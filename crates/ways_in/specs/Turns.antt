@@ -1,0 +1,24 @@
+-- For the contracts of the code alone: a panel's turn, and an order heeded by one panel.
+use Prim.Native.Nat.{ℕ}
+use mathlib.Core.Path.{_≡_}
+use mathlib.Core.Bool.{cond}
+use mathlib.Core.List.{List}
+use Rattle.laws.specs.Bytes.{Sent}
+use Rattle.turns.specs.Turns.{Turn}
+use Rattle.panels.specs.declared.Panel.{Panel}
+use Rattle.vmc.specs.Orders.{carried}
+use Rattle.vmc_asks.specs.declared.Order.{Order}
+use Rattle.steps.specs.Messages.{nameOf}
+use Rattle.steps.specs.Addressing.{isCalled}
+use Rattle.steps.specs.Step.{withW}
+use Rattle.ways_in.specs.declared.Acted.{Acted}
+
+-- the panel after its turn, the answer, and the reply at the front of the area
+pub record Acts (t : Turn Panel) (area : List ℕ) (r : Acted) (area′ : List ℕ) : Type 0 where
+  pub after-is : r .after ≡ t .after
+  pub answer-is : r .answer ≡ t .answer
+  pub sends : Sent (t .reply) (r .len) area area′
+
+-- a panel that is called carries an order out
+unfoldable pub heeded : List ℕ → Order → Panel → Panel
+heeded m o p = cond (isCalled m (nameOf p)) (withW p (carried o (p .w))) p
