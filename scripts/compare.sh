@@ -15,8 +15,9 @@ both() {
     cmp -s "$room/box" "$room/second"
 }
 
-# orders SCRIPT: how many lines of it are orders
-orders() { grep -c '^[^#]' "$1"; }
+# order_lines SCRIPT: the lines of it that are orders, each of which is answered by one line; orders SCRIPT: how many
+order_lines() { LC_ALL=C grep -a '^[^#]' "$1"; }
+orders() { order_lines "$1" | wc -l; }
 
 # compared NAME WORD..: the script that the generator writes for these words; its orders are counted in $total
 compared() {
@@ -26,7 +27,8 @@ compared() {
     total=$((total + $(orders "$room/script")))
     both "$room/script" && return
     echo "differs: $name; the first lines that do, of the box (<) and of the second program (>):"
-    diff "$room/box" "$room/second" | head -n 6
+    diff -a "$room/box" "$room/second" | head -n 6
+    echo "the first of them at the order: $(order_lines "$room/script" | sed -n "$(diff -a "$room/box" "$room/second" | sed -n '1s/[^0-9].*//p')p")"
     exit 1
 }
 

@@ -2,9 +2,13 @@
 # On an x86-64 machine programs and archive are used as they are. On another machine the kit brings a C compiler, a linker
 # and an emulator for x86-64, and these are used.
 machine=$(uname -m)
+top=$(cd "$(dirname "${BASH_SOURCE[0]}")/.." && pwd) || exit 2
 kit=$(cd "$(dirname "$(rt doc)")/.." && pwd) || exit 2
 tools=$kit/on/$machine/toolchain
 c_flags=(-std=c11 -O2 -g -Wall -Wextra -Wpedantic -Werror -Iinclude)
+
+# is_current FILE: it is there, and no source of a crate is newer
+is_current() { [ -e "$1" ] && [ -z "$(find "$top/crates" "$top/crates.txt" -newer "$1" -print -quit)" ]; }
 
 # run_program PROGRAM ARG..
 run_program() {
@@ -47,22 +51,26 @@ END
     echo "$shadow"
 }
 
-# native_archive CRATE: the object of the crate's archive in target/native, made again only where the archive is newer
-native_archive() {
-    local object=$PWD/target/native/$1.o shadow
-    [ "$object" -nt "target/staticlib/lib$1.a" ] && return
-    shadow=$(shadow_kit "$object")
-    RATTLE_HOME=$shadow rt staticlib "$1" > "$object.log" 2>&1 || { cat "$object.log"; return 1; }
-    touch "$object"
+# archive CRATE: target/staticlib/libCRATE.a, and on another machine than x86-64 the same module as target/native/CRATE.o, both
+# from one proof and only where a source is newer. It is the second proof of the crate in a gate: `rt staticlib` writes an archive only
+# of what it has proved itself, and `rt ci` proves every crate that crates.txt lists and keeps no archive.
+archive() {
+    local library=target/staticlib/lib$1.a object=$PWD/target/native/$1.o log=target/$1.archive.log home=$kit
+    is_current "$library" && { [ "$machine" = x86_64 ] || is_current "$object"; } && return
+    mkdir -p target
+    if [ "$machine" != x86_64 ]; then home=$(shadow_kit "$object"); fi
+    RATTLE_HOME=$home rt staticlib "$1" > "$log" 2>&1 && { [ "$machine" = x86_64 ] || [ -f "$object" ]; } && return
+    cat "$log"
+    return 1
 }
 
-# memcheck_program OUT FILE.c CRATE: the C program and the crate's archive in a form that valgrind can run
+# memcheck_program OUT FILE.c CRATE: the C program and the crate's archive, made before, in a form that valgrind can run
 memcheck_program() {
     if [ "$machine" = x86_64 ]; then
         gcc "${c_flags[@]}" "$2" "target/staticlib/lib$3.a" -o "$1"
         return
     fi
-    native_archive "$3" && gcc "${c_flags[@]}" "$2" "target/native/$3.o" -o "$1"
+    gcc "${c_flags[@]}" "$2" "target/native/$3.o" -o "$1"
 }
 
 # native_program OUT PROGRAM: a program of this repository in a form that valgrind can run

@@ -3,10 +3,7 @@
 . "$here/scripts/machine.sh"
 
 # is_built PROGRAM
-is_built() {
-    local program=$here/target/bin/$1
-    [ -x "$program" ] && [ -z "$(find "$here/crates" "$here/crates.txt" -newer "$program" -print -quit)" ]
-}
+is_built() { is_current "$here/target/bin/$1"; }
 
 # build PROGRAM: what was proved before and has not changed is not proved again
 build() {
