@@ -15,7 +15,7 @@ use Rattle.script_orders.specs.Answers.{Effect, Answers, writes, boxed, 
 use Rattle.script_orders.specs.declared.Answered.{Answered}
 use Rattle.addresses.specs.declared.Line.{Line}
 
--- two outcomes agree: box, length of the text, and every filler byte
+-- two outcomes agree: box, length of the text, and every lent byte
 pub record Agree (r r′ : Answered) (x x′ : List ℕ) : Type 0 where
   pub after-same : r .after ≡ r′ .after
   pub length-same : r .len ≡ r′ .len

@@ -37,6 +37,6 @@ signedText (negsuc n) = numberText (ascii "-") (n + 1)
 unfoldable pub spoiledBy : List ℕ → List ℕ
 spoiledBy rest = cond (every (eqb 0xa5) rest) [] (ascii " spoiled")
 
--- "`answer A reply HEX`, HEX being as many bytes of the area's front as the box numberText that it wrote"
+-- "`answer A reply HEX`, HEX being as many bytes of the area's front as the box said that it wrote"
 unfoldable pub replyText : ℕ → List ℕ → List ℕ → List ℕ
 replyText answer reply rest = numberText (ascii "answer ") answer ++ bytesText (ascii " reply ") reply ++ spoiledBy rest

@@ -1,25 +1,16 @@
 -- Every answer but 0 leaves the record, a valid record stays valid, and no reply carries F010h: by the cases of what a packet asks.
 use mathlib.Core.Path.{_≡_, refl, ap}
-use mathlib.Core.Bool.{true, not}
 use mathlib.Core.List.{List, [], _∷_}
 use Prim.Native.Nat.{ℕ}
 use native.Mathlib.Omega.{arith}
-use lib.Dec.{ltb}
 use lib.ListN.{length, getD}
-use Rattle.laws.proofs.Conditions.{choose}
 use Rattle.terms.specs.Answers.{numberOf}
-use Rattle.terms.specs.declared.Answer.the-variants.{WrongLength, NotForUs}
-use Rattle.turns.specs.Turns.{Turn, taken}
-use Rattle.turns.proofs.Turns.{either, refusal-leaves as leaves}
-use Rattle.panels.specs.Valid.{okW}
+use Rattle.turns.specs.Turns.{taken}
+use Rattle.turns.proofs.Turns.{refusal-leaves as leaves}
 use Rattle.panels.specs.declared.WRecord.{WRecord}
-use Rattle.vmc_asks.specs.Asks.{readData}
 use Rattle.vmc_tells.specs.Texts.{textOf}
-use Rattle.vmc_asks.specs.declared.Words.{Words}
-use Rattle.vmc_asks.specs.declared.Words.the-variants.{Understood as UnderstoodWords, NotUnderstood as NotUnderstoodWords}
-use Rattle.vmc.proofs.Validity.{carried-valid}
 use Rattle.vmc.proofs.Plain.{low-text}
-use Rattle.sdcp_asks.specs.Asks.{isOurs, isBroken, dataOf, inWords, heardOf}
+use Rattle.sdcp_asks.specs.Asks.{heardOf}
 use Rattle.sdcp.specs.Replies.{packetOf, bytesOf, answerOf, turned, turnOf}
 use Rattle.sdcp_asks.specs.declared.Heard.{Heard}
 use Rattle.sdcp_asks.specs.declared.Heard.the-variants.{Refused, Broken, NotUnderstood, Understood}
@@ -44,29 +35,6 @@ turn-leaves m (Understood o) w n = absurd (n refl)
 -- every answer but 0 leaves the record as it was
 pub refusal-leaves : (room : ℕ) (m : List ℕ) (w : WRecord) → (numberOf (taken room (turnOf m) w .answer) ≡ 0 → ⊥) → taken room (turnOf m) w .after ≡ w
 refusal-leaves room m w = leaves room (turnOf m) w (turn-leaves m (heardOf m) w)
-
--- ---- a valid record stays valid
-
--- what was heard leaves or makes a valid record
-abbrev Keeps : List ℕ → WRecord → Heard → Type 0
-Keeps m w h = okW w ≡ true → okW (turned m h w .after) ≡ true
-
-words-keep : (m d : List ℕ) (w : WRecord) (x : Words) → readData d ≡ x → Keeps m w (inWords x)
-unfolding turned
-words-keep m d w (UnderstoodWords o) e v = carried-valid d o w e v
-words-keep m d w NotUnderstoodWords e v = v
-
-pub turned-valid : (m : List ℕ) (w : WRecord) → okW w ≡ true → okW (turnOf m w .after) ≡ true
-unfolding heardOf turned
-turned-valid m w =
-    choose (Keeps m w) (ltb (length m) 13) (Refused WrongLength) _ (λ e v. v) (λ e.
-    choose (Keeps m w) (not (isOurs m)) (Refused NotForUs) _ (λ f v. v) (λ f.
-    choose (Keeps m w) (isBroken m) Broken _ (λ g v. v) (λ g.
-    words-keep m (dataOf m) w (readData (dataOf m)) refl)))
-
--- whatever the packet and the area
-pub stays-valid : (room : ℕ) (m : List ℕ) (w : WRecord) → okW w ≡ true → okW (taken room (turnOf m) w .after) ≡ true
-stays-valid room m w v = either (λ (t : Turn WRecord). okW (t .after) ≡ true) room (turnOf m) w v (turned-valid m w v)
 
 -- ---- "Error F010h is never sent."
 

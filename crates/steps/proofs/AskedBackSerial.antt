@@ -13,8 +13,7 @@ use Rattle.panels.specs.declared.Balance.{Balance}
 use Rattle.panels.specs.declared.WRecord.{WRecord}
 use Rattle.panels.specs.declared.DisplayBox.{DisplayBox}
 use Rattle.rs232c_asks.specs.Asks.{heardOf, valuesOf}
-use Rattle.rs232c_levels.specs.Levels.{silent}
-use Rattle.rs232c_levels.specs.Levels.{gainOf, biasOf, decode, put}
+use Rattle.rs232c_levels.specs.Levels.{silent, gainOf, biasOf, decode, put}
 use Rattle.rs232c_tells.specs.Texts.{bytesOf, remoteOf, sensed}
 use Rattle.rs232c.specs.Replies.{turnOf}
 use Rattle.rs232c_tells.specs.declared.Three.{Three}

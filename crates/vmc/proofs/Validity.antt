@@ -40,7 +40,7 @@ asks-fits _ _ (stat-get k h) = h
 pub understood-fits : (d : List ℕ) (o : Order) → readData d ≡ Understood o → Fits o
 understood-fits d o e = asks-fits d o (only d o e)
 
-carried-fits : (o : Order) (w : WRecord) → Fits o → InRange w → InRange (carried o w)
+pub carried-fits : (o : Order) (w : WRecord) → Fits o → InRange w → InRange (carried o w)
 unfolding carried okShift
 carried-fits (Set k v) w f r = record { settings-ok = within-set (w .settings) mosts k v (r .settings-ok) (bound-at mosts k v (f .1)); shifts-ok = r .shifts-ok; inputs-ok = r .inputs-ok; balance-ok = r .balance-ok }
 carried-fits (Shift axis z) w f r = record { settings-ok = r .settings-ok; shifts-ok = every-set okShift (w .shifts) axis z (r .shifts-ok) (f .1); inputs-ok = r .inputs-ok; balance-ok = r .balance-ok }

@@ -19,12 +19,12 @@ use Rattle.panels.specs.declared.DisplayBox.{DisplayBox}
 use Rattle.box_rules.specs.Pairs.{idsOf, noIds, gathered, idsIn, judged}
 use Rattle.box_rules.specs.declared.Ids.{Ids}
 use Rattle.box_rules.specs.declared.Judged.{Judged}
-use Rattle.steps.specs.Messages.{Message, rs232c, kjw, tcp, Name, nobody, nameOf, names, onLink}
+use Rattle.steps.specs.Messages.{Message, Name, nobody, nameOf, names, onLink}
 use Rattle.steps.specs.Addressing.{isPair, pairNumber, byTcp, target, isCalled, anyCalled}
 use Rattle.steps.specs.Step.{toNobody, door, refused, step}
 use Rattle.steps.proofs.Door.{Lends, by-rs232c, by-kjw, by-tcp, speaks, nobody-shut}
 use Rattle.steps.proofs.Refusals.{too-small, no-such-panel}
-use Rattle.addresses.specs.Doors.{idName, isOf, targetBy, comesTo, opened}
+use Rattle.addresses.specs.Doors.{idName, isOf, targetBy, opened}
 use Rattle.addresses.specs.declared.Line.{Line}
 use Rattle.addresses.specs.declared.Line.the-variants.{Rs232c, Kjw, Tcp}
 use Rattle.addresses.specs.declared.Door.{Door}

@@ -19,7 +19,6 @@ use Rattle.steps.specs.Messages.{Message, rs232c, kjw, tcp, udp, Name, names}
 use Rattle.steps.specs.Addressing as addressing
 use Rattle.steps.specs.Addressing.{target, addressed, byTcp, isId}
 use Rattle.steps.specs.Step.{withPanels, door, turn, Back, backOn, back, Outcome as Stepped, panelAt, passed, refused, step}
-use Rattle.laws.specs.Bytes.{Sent}
 use Rattle.addresses.specs.declared.Line.{Line}
 use Rattle.addresses.specs.declared.Line.the-variants.{Rs232c, Kjw, Tcp}
 use Rattle.ways_in.specs.Promise.{Steps, messageOf}

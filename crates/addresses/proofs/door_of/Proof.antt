@@ -1,15 +1,13 @@
 -- `door_of` asks the room, the family on the link, and who is addressed, in turn.
-use mathlib.Core.Path.{_≡_, sym, ap, _∙_}
+use mathlib.Core.Path.{_≡_, sym, _∙_}
 use mathlib.Core.Bool.{true, false}
 use mathlib.Core.List.{List, map}
-use lib.Dec.{eqb}
-use lib.ListN.{length}
 use borrow.Author.Tests.{lt-ltb, le-ltb, eq-eqb, ne-eqb}
 use borrow.Author.Needs.{needs}
 use Prim.Native.Nat.{ℕ}
 use Rattle.box_rules.specs.declared.Ids.{Ids}
 use Rattle.steps.specs.Messages.{onLink}
-use Rattle.addresses.specs.Doors.{idName, familyOn, familyBy, isOf, targetBy, opened}
+use Rattle.addresses.specs.Doors.{idName, familyOn, familyBy, isOf, opened}
 use Rattle.addresses.specs.declared.Line.{Line}
 use Rattle.addresses.proofs.Names.{on-link}
 use Rattle.addresses.proofs.door_of.Statement.{statement}

@@ -1,11 +1,10 @@
 -- `family_on` asks the link's bounds, and behind the eighth place there is no panel.
-use Prim.Native.Nat.{_-_, _≤_}
+use Prim.Native.Nat.{_-_}
 use mathlib.Core.Path.{_≡_, sym, ap}
-use lib.ListN.{length, getD}
+use lib.ListN.{length}
 use borrow.Author.Tests.{le-leb, lt-leb}
 use borrow.Author.Needs.{needs}
 use native.Mathlib.Omega.{arith}
-use Rattle.box_rules.specs.Pairs.{noIds}
 use Rattle.box_rules.specs.declared.Ids.{Ids}
 use Rattle.addresses.specs.Doors.{familyOn}
 use Rattle.addresses.proofs.Names.{past-end}

@@ -1,6 +1,6 @@
 -- `share_pair` asks the groups, the units and both families; a pair is shared where all four say yes, in any order.
-use mathlib.Core.Path.{_≡_, sym}
-use mathlib.Core.Bool.{Bool, true, false, _&&_, and-false, and-true}
+use mathlib.Core.Path.{sym}
+use mathlib.Core.Bool.{and-false, and-true}
 use borrow.Author.Tests.{eq-eqb, ne-eqb, not-true, not-false}
 use borrow.Author.Needs.{needs}
 use Rattle.panels.specs.Valid.{share}

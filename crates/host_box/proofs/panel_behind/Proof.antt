@@ -1,7 +1,6 @@
 -- `panel_behind` asks the rules and the link's bounds in turn; a box that keeps the rules has at most eight panels, so the place is one of the eight.
 use mathlib.Core.Path.{_≡_, sym, _∙_}
 use mathlib.Core.Bool.{true}
-use Prim.Native.Nat.{_≤_}
 use borrow.Author.Tests.{le-leb, lt-leb, not-true, not-false}
 use borrow.Author.Needs.{needs}
 use native.Mathlib.Omega.{arith}

@@ -1,13 +1,13 @@
 -- `take_message` hands the message to the way in that has its number.
 use Prim.Native.Nat.{ℕ}
-use mathlib.Core.Path.{_≡_, refl, sym, ap, _∙_}
+use mathlib.Core.Path.{_≡_, sym, ap, _∙_}
 use mathlib.Core.List.{List}
 use borrow.Author.Needs.{needs}
 use Rattle.terms.specs.Answers.{numberOf}
 use Rattle.panels.specs.declared.DisplayBox.{DisplayBox}
 use Rattle.ways_in.specs.Promise.{outcomeOf, cameBy}
 use Rattle.ways_in.specs.declared.Way.{Way}
-use Rattle.ways_in.specs.declared.Outcome.{Outcome as Told}
+use Rattle.ways_in.specs.declared.Outcome.{Outcome as Held}
 use Rattle.host_box.specs.Called.{Called, wayOf, calledBy, called, numbersOf}
 use Rattle.host_box.specs.declared.Entry.{Entry}
 use Rattle.host_box.specs.declared.Entry.the-variants.{Through, Nowhere}
@@ -20,10 +20,10 @@ leads : (b : DisplayBox) (n link : ℕ) (m area : List ℕ) (e f : Entry) → e 
 unfolding called
 leads b n link m area e f p q = ap (λ (x : Entry). calledBy x b link m area) (sym p ∙ q)
 
-abbrev in-numbers : Told → Outcome
+abbrev in-numbers : Held → Outcome
 in-numbers t = record { after = t .after; answer = numberOf (t .answer); len = t .len }
 
-through : (b : DisplayBox) (n link : ℕ) (m area : List ℕ) (e : Entry) (w : Way) (t : Told) (area′ : List ℕ) (r : Outcome) → e ≡ wayOf n → e ≡ Through w → (t ≡ outcomeOf (cameBy w b link m area)) × (area′ ≡ cameBy w b link m area .area) → r ≡ in-numbers t → (r ≡ numbersOf (called b n link m area)) × (area′ ≡ called b n link m area .area)
+through : (b : DisplayBox) (n link : ℕ) (m area : List ℕ) (e : Entry) (w : Way) (t : Held) (area′ : List ℕ) (r : Outcome) → e ≡ wayOf n → e ≡ Through w → (t ≡ outcomeOf (cameBy w b link m area)) × (area′ ≡ cameBy w b link m area .area) → r ≡ in-numbers t → (r ≡ numbersOf (called b n link m area)) × (area′ ≡ called b n link m area .area)
 through b n link m area e w t area′ r p q s k =
     let c = leads b n link m area e (Through w) p q in
     (k ∙ ap in-numbers (s .0) ∙ ap numbersOf (sym c), s .1 ∙ ap (λ (x : Called). x .area) (sym c))

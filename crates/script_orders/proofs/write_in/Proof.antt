@@ -21,7 +21,7 @@ use Rattle.script_orders.proofs.write_in.Tie as tie
 filled-most : (a : Answer) → filled a ≤ 122
 filled-most a = choose (λ (n : ℕ). n ≤ 122) (eqb (numberOf a) 0) 122 0 (λ e. omega arith) (λ e. omega arith)
 
--- the writer fills no more than it was filler
+-- the writer fills no more than it was lent
 lent-fits : (room : ℕ) (other : Answer) → filled (cond (ltb room 122) AreaTooSmall other) ≤ room
 lent-fits room other =
     choose (λ (r : Answer). filled r ≤ room) (ltb room 122) AreaTooSmall other

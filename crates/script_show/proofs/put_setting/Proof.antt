@@ -1,4 +1,4 @@
--- `put_setting` puts a space, and behind it the words of what is bytesText.
+-- `put_setting` puts a space, and behind it the words of what is said.
 use mathlib.Core.Path.{_≡_, sym, ap, _∙_}
 use lib.ListN.{length}
 use borrow.Author.Needs.{needs}

@@ -1,14 +1,13 @@
 -- `take` is the message with a link, or the packet by UDP with the area left alone.
 use Prim.Native.Nat.{ℕ}
-use mathlib.Core.Path.{_≡_, refl, sym, ap, _∙_}
+use mathlib.Core.Path.{_≡_, sym, ap, _∙_}
 use mathlib.Core.List.{List, []}
 use borrow.Author.Needs.{needs}
 use Rattle.terms.specs.declared.Answer.{Answer}
 use Rattle.panels.specs.declared.DisplayBox.{DisplayBox}
 use Rattle.steps.specs.Messages.{udp}
-use Rattle.steps.specs.Step.{Outcome as Stepped, step}
 use Rattle.addresses.specs.declared.Line.{Line}
-use Rattle.ways_in.specs.Promise.{Steps, messageOf, Came, outcomeOf, cameBy}
+use Rattle.ways_in.specs.Promise.{Steps, messageOf, outcomeOf, cameBy}
 use Rattle.ways_in.specs.declared.Way.{Way}
 use Rattle.ways_in.specs.declared.Way.the-variants.{By, Udp}
 use Rattle.ways_in.specs.declared.Outcome.{Outcome}

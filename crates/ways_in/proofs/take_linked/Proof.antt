@@ -1,18 +1,14 @@
 -- `take_linked` is refused where the door is shut, and else is the turn of the panel that it opens to.
-use Prim.Native.Nat.{ℕ, _<_}
-use mathlib.Core.Path.{_≡_, refl, sym, ap, subst, _∙_}
-use mathlib.Core.List.{List, map}
-use lib.ListN.{length, set}
+use Prim.Native.Nat.{ℕ}
+use mathlib.Core.Path.{_≡_, refl, sym, _∙_}
+use mathlib.Core.List.{List}
+use lib.ListN.{length}
 use borrow.Author.Needs.{needs}
 use Rattle.terms.specs.declared.Answer.{Answer}
 use Rattle.panels.specs.declared.DisplayBox.{DisplayBox}
-use Rattle.box_rules.specs.Pairs.{judged}
-use Rattle.box_rules.specs.declared.Judged.{Judged}
-use Rattle.steps.specs.Step.{refused, step}
+use Rattle.steps.specs.Step.{step}
 use Rattle.steps.proofs.Refusals.{none-sent}
-use Rattle.addresses.specs.Doors.{idName, opened}
 use Rattle.addresses.specs.declared.Line.{Line}
-use Rattle.addresses.specs.declared.Door.{Door}
 use Rattle.addresses.specs.declared.Door.the-variants.{Shut, At}
 use Rattle.ways_in.specs.Promise.{Steps, messageOf}
 use Rattle.ways_in.specs.declared.Outcome.{Outcome}

@@ -2,21 +2,18 @@
 use mathlib.Core.Path.{_≡_, refl, sym, ap, _∙_}
 use mathlib.Core.Bool.{Bool, true, false}
 use mathlib.Core.List.{List, [], map}
-use lib.ListN.{take}
 use Prim.Native.Nat.{ℕ}
 use borrow.Author.Tests.{not-true, not-false}
 use borrow.Author.Needs.{needs}
-use Rattle.panels.specs.Valid.{valid}
 use Rattle.panels.specs.declared.Panel.{Panel}
 use Rattle.panels.specs.declared.DisplayBox.{DisplayBox}
 use Rattle.terms.specs.declared.Answer.{Answer}
-use Rattle.steps.specs.Messages.{udp, nameOf, names}
+use Rattle.steps.specs.Messages.{udp, names}
 use Rattle.steps.specs.Addressing.{anyCalled}
 use Rattle.steps.specs.Step.{withPanels, toNobody, nothing, step}
 use Rattle.ways_in.specs.Promise.{Steps}
 use Rattle.ways_in.specs.declared.Outcome.{Outcome}
 use Rattle.ways_in.proofs.Calls.{uncalled, idle, refusing, broken, strange, obeyed}
-use Rattle.steps.proofs.Validity.{valid-names}
 use Rattle.ways_in.proofs.Doors.{valid-count, called-read, called-valid}
 use Rattle.ways_in.proofs.Stores.{steps, refuses}
 use Rattle.box_rules.specs.Pairs.{judged}
