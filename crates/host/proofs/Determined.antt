@@ -12,7 +12,7 @@ use Rattle.panels.specs.declared.Panel.{Panel}
 use Rattle.panels.specs.declared.DisplayBox.{DisplayBox}
 use Rattle.host_box.specs.Called.{Called, panelBehind}
 use Rattle.host.specs.declared.Outcome.{Outcome}
-use Rattle.host.specs.Calls.{WrittenForC, outcomeOf}
+use Rattle.host.specs.Calls.{WrittenForC, outcomeForC}
 
 pub box-checksum-ok-one : (area : List ℕ) (r r′ : Bool) → r ≡ sumsToZero area → r′ ≡ sumsToZero area → r ≡ r′
 box-checksum-ok-one area r r′ p q = p ∙ sym q
@@ -26,7 +26,7 @@ box-advert-write-one a area r r′ x x′ p q = (p .answer ∙ sym (q .answer), 
 pub box-configure-one : (c : List ℕ) (b b′ : DisplayBox) (r r′ : ℕ) → (b ≡ configured c .made) × (r ≡ numberOf (configured c .answer)) → (b′ ≡ configured c .made) × (r′ ≡ numberOf (configured c .answer)) → (b ≡ b′) × (r ≡ r′)
 box-configure-one c b b′ r r′ p q = (p .0 ∙ sym (q .0), p .1 ∙ sym (q .1))
 
-pub box-take-one : (c : Called) (b b′ : DisplayBox) (r r′ : Outcome) (x x′ : List ℕ) → (b ≡ c .box) × ((r ≡ outcomeOf c) × (x ≡ c .area)) → (b′ ≡ c .box) × ((r′ ≡ outcomeOf c) × (x′ ≡ c .area)) → (b ≡ b′) × ((r ≡ r′) × (x ≡ x′))
+pub box-take-one : (c : Called) (b b′ : DisplayBox) (r r′ : Outcome) (x x′ : List ℕ) → (b ≡ c .box) × ((r ≡ outcomeForC c) × (x ≡ c .area)) → (b′ ≡ c .box) × ((r′ ≡ outcomeForC c) × (x′ ≡ c .area)) → (b ≡ b′) × ((r ≡ r′) × (x ≡ x′))
 box-take-one c b b′ r r′ x x′ p q = (p .0 ∙ sym (q .0), (p .1 .0 ∙ sym (q .1 .0), p .1 .1 ∙ sym (q .1 .1)))
 
 pub box-panel-at-one : (b : DisplayBox) (link : ℕ) (p p′ : Panel) → p ≡ panelBehind b link → p′ ≡ panelBehind b link → p ≡ p′

@@ -5,7 +5,7 @@ use mathlib.Core.List.{List, [], _∷_}
 use lib.ListN.{length}
 use Rattle.terms.specs.Answers.{numberOf}
 use Rattle.sdap.specs.Layout.{advertOf}
-use Rattle.sdap.specs.Rules.{writeAnswer, left}
+use Rattle.sdap.specs.Rules.{writeAnswer, areaAfter}
 use Rattle.sdap.specs.declared.Advert.{Advert}
 use Rattle.host_box.specs.Called.{Called}
 use Rattle.host.specs.declared.Outcome.{Outcome}
@@ -19,8 +19,8 @@ fieldsFromC category product serial power location connected accepted1 accepted2
 -- the writer's promise with the answer as its number
 pub record WrittenForC (a : Advert) (area : List ℕ) (r : ℕ) (area′ : List ℕ) : Type 0 where
   pub answer : r ≡ numberOf (writeAnswer (length area) a)
-  pub area-after : area′ ≡ left (writeAnswer (length area) a) a area
+  pub area-after : area′ ≡ areaAfter (writeAnswer (length area) a) a area
 
 -- what the host is told of a message: the answer's number and the reply's length
-abbrev pub outcomeOf : Called → Outcome
-outcomeOf c = record { answer = c .answer; len = c .len }
+abbrev pub outcomeForC : Called → Outcome
+outcomeForC c = record { answer = c .answer; len = c .len }

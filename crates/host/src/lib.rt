@@ -16,7 +16,7 @@ ghost use Rattle.sums.specs.Sums.{sumsToZero};
 ghost use Rattle.sdap.specs.Rules.{readAnswer};
 ghost use Rattle.configure.specs.Configure.{configured};
 ghost use Rattle.host_box.specs.Called.{called, panelBehind};
-ghost use Rattle.host.specs.Calls.{WrittenForC, fieldsFromC, outcomeOf};
+ghost use Rattle.host.specs.Calls.{WrittenForC, fieldsFromC, outcomeForC};
 
 // What the host is told of a message: the answer's number, and the reply's length.
 #[repr(C)]
@@ -46,7 +46,7 @@ pub extern "C" fn box_take(
     area: &mut [u8],
 ) -> Outcome
     ensures { λ r. ⌜ (now (b .exit) ≡ called (now (b .entry)) way link (now (m .entry)) (now (area .entry)) .box)
-        × ((r ≡ outcomeOf (called (now (b .entry)) way link (now (m .entry)) (now (area .entry))))
+        × ((r ≡ outcomeForC (called (now (b .entry)) way link (now (m .entry)) (now (area .entry))))
         × (now (area .exit) ≡ called (now (b .entry)) way link (now (m .entry)) (now (area .entry)) .area)) ⌝ }
 {
     let t = take_message(*b, way, link, m, area);

@@ -45,8 +45,8 @@ decided k NotUnderstood = record { k = k; answer = answers.NotUnderstood; reply 
 decided k (Understood o) = record { k = carried o k; answer = Done; reply = replyOf o k (carried o k) }
 
 -- what a message comes to: the panel afterwards, the answer and the reply's bytes
-abbrev pub spelled : List ℕ → Decided → Turn KRecord
-spelled l t = record { after = t .k; answer = t .answer; reply = bytesOf (t .reply) (t .k) l }
+abbrev pub turned : List ℕ → Decided → Turn KRecord
+turned l t = record { after = t .k; answer = t .answer; reply = bytesOf (t .reply) (t .k) l }
 
 unfoldable pub turnOf : List ℕ → KRecord → Turn KRecord
-turnOf m k = spelled (lettersOf m) (decided k (heardOf m))
+turnOf m k = turned (lettersOf m) (decided k (heardOf m))

@@ -28,11 +28,11 @@ abbrev pub gainOf : ℕ → ℕ
 gainOf v = v % 4096
 
 -- "A bias is taken modulo 2048, and 1024 or more has 2048 subtracted: -1024 to 1023."
-abbrev pub signed : ℕ → ℤ
-signed r = cond (ltb r 1024) (pos r) (negsuc (2047 - r))
+abbrev pub wrapped : ℕ → ℤ
+wrapped r = cond (ltb r 1024) (pos r) (negsuc (2047 - r))
 
 abbrev pub biasOf : ℕ → ℤ
-biasOf v = signed (v % 2048)
+biasOf v = wrapped (v % 2048)
 
 abbrev pub put : {A : Type 0} → (ℕ → A) → Say → A → A
 put f silent old = old

@@ -15,7 +15,7 @@ use Rattle.panels.specs.declared.DisplayBox.{DisplayBox}
 use Rattle.steps.specs.Messages.{udp}
 use Rattle.steps.specs.Step.{panelAt, step}
 use Rattle.steps.specs.Step as steps
-use Rattle.sdap.specs.Rules.{readOf, writeAnswer, left}
+use Rattle.sdap.specs.Rules.{readOf, writeAnswer, areaAfter}
 use Rattle.sdap.specs.declared.Advert.{Advert as Fields}
 use Rattle.sdap.specs.declared.Read.{Read}
 use Rattle.script_words.specs.Words.{numberAt, bytesAt}
@@ -86,7 +86,7 @@ filled a = cond (eqb (numberOf a) 0) 122 0
 
 unfoldable pub wrote : Fields → List ℕ → List ℕ
 wrote a area =
-    replied (writeAnswer (length area) a) (filled (writeAnswer (length area) a)) (left (writeAnswer (length area) a) a area)
+    replied (writeAnswer (length area) a) (filled (writeAnswer (length area) a)) (areaAfter (writeAnswer (length area) a) a area)
 
 -- "`yes` or `no`"
 unfoldable pub summed : List ℕ → List ℕ

@@ -55,7 +55,7 @@ use Rattle.steps.specs.Messages.{Message, rs232c, kjw, tcp, udp, names}
 use Rattle.steps.specs.Step.{turn, back, passed, refused, door, panelAt, step}
 use Rattle.steps.specs.Step as steps
 use Rattle.sdap.specs.Layout.{fieldsOf, noFields}
-use Rattle.sdap.specs.Rules.{readOf, readAnswer, writeAnswer, left}
+use Rattle.sdap.specs.Rules.{readOf, readAnswer, writeAnswer, areaAfter}
 use Rattle.sdap.specs.declared.Advert.{Advert as Fields}
 use Rattle.sdap.specs.declared.Read.{Read}
 use Rattle.script_words.specs.Words.{numberAt, bytesAt}
@@ -318,7 +318,7 @@ wrote-fits : (a : Fields) (area : List ℕ) → length (wrote a area) ≤ 1000
 unfolding wrote
 wrote-fits a area =
     let w = writeAnswer (length area) a in
-    replied-fits w (filled w) (left w a area) (choose (λ (n : ℕ). n ≤ 122) (eqb (numberOf w) 0) 122 0 (λ e. omega arith) (λ e. omega arith))
+    replied-fits w (filled w) (areaAfter w a area) (choose (λ (n : ℕ). n ≤ 122) (eqb (numberOf w) 0) 122 0 (λ e. omega arith) (λ e. omega arith))
 
 -- ---- a reply
 

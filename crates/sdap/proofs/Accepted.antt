@@ -13,7 +13,7 @@ use Rattle.terms.specs.declared.Answer.{Answer}
 use Rattle.terms.specs.declared.Answer.the-variants.{AreaTooSmall, WrongLength, NotForUs}
 use Rattle.sdap.specs.declared.Advert.{Advert}
 use Rattle.sdap.specs.Layout.{fieldsOf}
-use Rattle.sdap.specs.Rules.{readAnswer, writeVerdict, writeAnswer, isFront, isSized, Sized, judged}
+use Rattle.sdap.specs.Rules.{readAnswer, writeVerdict, writeAnswer, isFront, isSized, Sized, verdictOf}
 
 -- an answer whose number is not 0 is not an answer whose number is 0
 other : (a b : Answer) → (numberOf a ≡ 0 → ⊥) → numberOf b ≡ 0 → a ≡ b → ⊥
@@ -22,7 +22,7 @@ other a b n z e = n (ap numberOf e ∙ z)
 pub record Readable (l : List ℕ) : Type 0 where
   pub long : length l ≡ 122
   pub front : isFront l ≡ true
-  pub fair : judged (fieldsOf l) ≡ readAnswer l
+  pub fair : verdictOf (fieldsOf l) ≡ readAnswer l
 
 pub readable : (l : List ℕ) → numberOf (readAnswer l) ≡ 0 → Readable l
 unfolding readAnswer
@@ -50,7 +50,7 @@ sized p l r n e =
 pub record Writable (room : ℕ) (a : Advert) : Type 0 where
   pub room-ok : 122 ≤ room
   pub sizes : Sized (a .product) (a .location) (a .region) (a .name)
-  pub fair : judged a ≡ writeAnswer room a
+  pub fair : verdictOf a ≡ writeAnswer room a
 
 pub writable : (room : ℕ) (a : Advert) → numberOf (writeAnswer room a) ≡ 0 → Writable room a
 unfolding writeVerdict

@@ -8,7 +8,7 @@ use Rattle.laws.specs.Numbers.{number, inBytes}
 use Rattle.terms.specs.declared.Answer.the-variants.{Done, AreaTooSmall, WrongLength, NotForUs, EnvelopeWrong}
 use Rattle.sdap.specs.declared.Advert.{Advert}
 use Rattle.sdap.specs.Layout.{bytesOf, fieldsOf, noFields}
-use Rattle.sdap.specs.Rules.{isText, areTexts, isCategory, isFilled, isFront, isSized, verdict, readAnswer, readOf, writeVerdict, writeAnswer, left, beforeZero}
+use Rattle.sdap.specs.Rules.{isText, areTexts, isCategory, isFilled, isFront, isSized, verdict, readAnswer, readOf, writeVerdict, writeAnswer, areaAfter, beforeZero}
 
 -- document 000, "Example"
 example : List ℕ
@@ -75,6 +75,6 @@ small-refused : writeAnswer 121 advert ≡ AreaTooSmall
 unfolding advert writeVerdict
 small-refused = refl
 
-written-in-124 : left (writeAnswer 124 advert) advert (replicate 124 0xa5) ≡ example ++ (0xa5 ∷ 0xa5 ∷ [])
+written-in-124 : areaAfter (writeAnswer 124 advert) advert (replicate 124 0xa5) ≡ example ++ (0xa5 ∷ 0xa5 ∷ [])
 unfolding advert example writeVerdict isSized verdict isCategory isFilled areTexts isText bytesOf inBytes
 written-in-124 = refl

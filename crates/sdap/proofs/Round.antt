@@ -17,7 +17,7 @@ use Rattle.terms.specs.Answers.{numberOf}
 use Rattle.terms.specs.declared.Answer.{Answer}
 use Rattle.sdap.specs.declared.Advert.{Advert}
 use Rattle.sdap.specs.Layout.{headOf, addressesOf, tailOf, bytesOf, fieldsOf}
-use Rattle.sdap.specs.Rules.{isFront, isSized, Sized, writeVerdict, judged, readAnswer, readOf, writeAnswer, Written}
+use Rattle.sdap.specs.Rules.{isFront, isSized, Sized, writeVerdict, verdictOf, readAnswer, readOf, writeAnswer, Written}
 use Rattle.sdap.proofs.Accepted.{Readable, readable, writable}
 use Rattle.sdap.proofs.Lengths.{head-length, addresses-length, tail-length}
 
@@ -119,7 +119,7 @@ module _ (a : Advert) (f : Fitting a) (s : Sized (a .product) (a .location) (a .
   unfolding isFront
   front-back = rw (opened a)
 
-  answer-back : readAnswer (bytesOf a) ≡ judged a
+  answer-back : readAnswer (bytesOf a) ≡ verdictOf a
   unfolding readAnswer
   answer-back = rw (eq-eqb _ _ bytes-long, front-back, fields-back)
 

@@ -37,8 +37,8 @@ verdict category power error product location region name =
     (cond (not (isFilled power error product location region name)) EnvelopeWrong
     Done)
 
-abbrev pub judged : Advert → Answer
-judged a = verdict (a .category) (a .power) (a .error) (a .product) (a .location) (a .region) (a .name)
+abbrev pub verdictOf : Advert → Answer
+verdictOf a = verdict (a .category) (a .power) (a .error) (a .product) (a .location) (a .region) (a .name)
 
 -- the fixed bytes: "DA" 0; version 04h 2; "SONY" 4
 unfoldable pub isFront : List ℕ → Bool
@@ -49,7 +49,7 @@ unfoldable pub readAnswer : List ℕ → Answer
 readAnswer l =
     cond (not (eqb (length l) 122)) WrongLength
     (cond (not (isFront l)) NotForUs
-    (judged (fieldsOf l)))
+    (verdictOf (fieldsOf l)))
 
 -- what is given of the fields with an answer: nothing but zeros when refused
 abbrev pub given : Answer → Advert → Advert
@@ -82,13 +82,13 @@ abbrev pub writeAnswer : ℕ → Advert → Answer
 writeAnswer room a = writeVerdict room (a .category) (a .power) (a .error) (a .product) (a .location) (a .region) (a .name)
 
 -- "On 0 it fills the first 122 bytes and those after keep what they held", else "area untouched"
-abbrev pub left : Answer → Advert → List ℕ → List ℕ
-left answer a area = cond (eqb (numberOf answer) 0) (sent (bytesOf a) area) area
+abbrev pub areaAfter : Answer → Advert → List ℕ → List ℕ
+areaAfter answer a area = cond (eqb (numberOf answer) 0) (sent (bytesOf a) area) area
 
 -- the writer's promise: its answer, and the whole area afterwards
 pub record Written (a : Advert) (area : List ℕ) (r : Answer) (area′ : List ℕ) : Type 0 where
   pub answer : r ≡ writeAnswer (length area) a
-  pub area-after : area′ ≡ left (writeAnswer (length area) a) a area
+  pub area-after : area′ ≡ areaAfter (writeAnswer (length area) a) a area
 
 -- "the product's bytes before its first 00h"
 unfoldable pub beforeZero : List ℕ → List ℕ

@@ -37,7 +37,7 @@ use Rattle.steps.specs.Step.{turn, backOn, panelAt, step}
 use Rattle.steps.specs.Run.{run}
 use Rattle.steps.proofs.Stays.{sets, spared, told-lasts}
 use Rattle.steps.proofs.Door.{by-tcp as on-link}
-use Rattle.steps.proofs.Turns.{Reaches, has-room, done-reaches, takes, told}
+use Rattle.steps.proofs.Turns.{Reaches, has-room, done-reaches, takes, goes-back}
 
 -- ---- SDCP
 
@@ -70,8 +70,8 @@ pub record Tells (b : DisplayBox) (l : ℕ) (p area words : List ℕ) : Type 0 w
 pub asked : (b : DisplayBox) (i l k : ℕ) (p area : List ℕ) → Reaches b (tcp l p area) i → heardOf p ≡ Understood (Get k) → Tells b l p area (textOf (saysOf (Get k) (panelAt i b .w)))
 unfolding turn packets.bytesOf
 asked b i l k p area r e = record {
-  says-done = told (on-link p) r .answer-is ∙ ap (λ (t : Turn WRecord). t .answer) f;
-  carries = told (on-link p) r .back-is ∙ ap (λ (t : Turn WRecord). backOn area (t .reply)) f;
+  says-done = goes-back (on-link p) r .answer-is ∙ ap (λ (t : Turn WRecord). t .answer) f;
+  carries = goes-back (on-link p) r .back-is ∙ ap (λ (t : Turn WRecord). backOn area (t .reply)) f;
 }
   where
     f : taken (length area) (packets.turnOf p) (panelAt i b .w) ≡ record { after = carried (Get k) (panelAt i b .w); answer = Done; reply = packets.bytesOf p (Ok (saysOf (Get k) (panelAt i b .w))) }

@@ -25,7 +25,7 @@ use Rattle.steps.specs.Step.{turn, backOn, panelAt, step}
 use Rattle.steps.specs.Run.{run}
 use Rattle.steps.proofs.Stays.{setsState, spared, value-lasts}
 use Rattle.steps.proofs.Door.{by-kjw}
-use Rattle.steps.proofs.Turns.{Reaches, has-room, done-reaches, takes, told}
+use Rattle.steps.proofs.Turns.{Reaches, has-room, done-reaches, takes, goes-back}
 
 -- a frame that was answered 0, on the link of the panel at place i
 module _ (b : DisplayBox) (i : ℕ) (m area : List ℕ) (d : step b (kjw (suc i) m area) .answer ≡ Done) where
@@ -35,7 +35,7 @@ module _ (b : DisplayBox) (i : ℕ) (m area : List ℕ) (d : step b (kjw (suc i)
 
   done : taken (length area) (turnOf m) (panelAt i b .k) .answer ≡ Done
   unfolding turn
-  done = sym (told (by-kjw m) came .answer-is) ∙ d
+  done = sym (goes-back (by-kjw m) came .answer-is) ∙ d
 
   after : panelAt i (step b (kjw (suc i) m area) .box) .k ≡ taken (length area) (turnOf m) (panelAt i b .k) .after
   unfolding turn
@@ -50,7 +50,7 @@ pub enquiry-asked : (b : DisplayBox) (i l : ℕ) (s : State) (area : List ℕ) �
 unfolding turn
 enquiry-asked b i l s area r =
     let room = has-room (by-kjw (frameOf typeEnquiry (stateLetters s) blank)) r in
-    told (by-kjw (frameOf typeEnquiry (stateLetters s) blank)) r .back-is ∙ ap (backOn area) (taken-asked (length area) s (panelAt i b .k) room)
+    goes-back (by-kjw (frameOf typeEnquiry (stateLetters s) blank)) r .back-is ∙ ap (backOn area) (taken-asked (length area) s (panelAt i b .k) room)
 
 -- POWR, AMUT, PMUT, VOLU, INPT and SCEN: an enquiry that comes to the panel next, or after any messages of which none that is addressed to it sets the state, is answered with the control's own parameters
 pub control-asked : (b : DisplayBox) (i l : ℕ) (s : State) (p area area′ : List ℕ) (ms : List Message) → length p ≡ 16 → step b (kjw (suc i) (frameOf typeControl (stateLetters s) p) area) .answer ≡ Done → spared (λ (m : Message). setsState m s) i (step b (kjw (suc i) (frameOf typeControl (stateLetters s) p) area) .box) ms ≡ true → Reaches (run (step b (kjw (suc i) (frameOf typeControl (stateLetters s) p) area) .box) ms) (kjw l (frameOf typeEnquiry (stateLetters s) blank) area′) i → step (run (step b (kjw (suc i) (frameOf typeControl (stateLetters s) p) area) .box) ms) (kjw l (frameOf typeEnquiry (stateLetters s) blank) area′) .back ≡ backOn area′ (frameOf typeAnswer (stateLetters s) p)

@@ -28,7 +28,7 @@ use Rattle.steps.specs.Step.{turn, backOn, panelAt, step}
 use Rattle.steps.specs.Run.{run}
 use Rattle.steps.proofs.Stays.{bears, spared, balance-lasts}
 use Rattle.steps.proofs.Door.{by-rs232c}
-use Rattle.steps.proofs.Turns.{Reaches, has-room, done-reaches, takes, told}
+use Rattle.steps.proofs.Turns.{Reaches, has-room, done-reaches, takes, goes-back}
 
 -- a message that comes to the panel of its link: the record afterwards and the reply
 after : {b : DisplayBox} {l i : ℕ} {m area : List ℕ} → Reaches b (rs232c l m area) i → panelAt i (step b (rs232c l m area) .box) .w ≡ taken (length area) (turnOf m) (panelAt i b .w) .after
@@ -37,7 +37,7 @@ after r = ap (λ (p : Panel). p .w) (takes r)
 
 replies : {b : DisplayBox} {l i : ℕ} {m area : List ℕ} (x : Reply) → Reaches b (rs232c l m area) i → taken (length area) (turnOf m) (panelAt i b .w) .reply ≡ bytesOf x → step b (rs232c l m area) .back ≡ backOn area (bytesOf x)
 unfolding turn
-replies {m} {area} x r e = told (by-rs232c m) r .back-is ∙ ap (backOn area) e
+replies {m} {area} x r e = goes-back (by-rs232c m) r .back-is ∙ ap (backOn area) e
 
 -- 6Eh tells REMOTE as it stands in the record of the panel that it comes to, whoever set it
 pub remote-asked : (b : DisplayBox) (i l s : ℕ) (m area : List ℕ) → Reaches b (rs232c l m area) i → heardOf m ≡ Understood s Remote → step b (rs232c l m area) .back ≡ backOn area (bytesOf (State s (remoteOf (panelAt i b .w))))
@@ -53,7 +53,7 @@ module _ (b : DisplayBox) (i s : ℕ) (m area : List ℕ) (d : step b (rs232c (s
 
   done : taken (length area) (turnOf m) (panelAt i b .w) .answer ≡ Done
   unfolding turn
-  done = sym (told (by-rs232c m) came .answer-is) ∙ d
+  done = sym (goes-back (by-rs232c m) came .answer-is) ∙ d
 
   -- 21h: the marked parts are as ordered, but for a connector that is OFF
   pub config-kept : (marks byte : ℕ) → heardOf m ≡ Understood s (Config marks byte) → serialBack.Configured marks byte (panelAt i b .w .inputs) (panelAt i (step b (rs232c (suc i) m area) .box) .w .inputs)

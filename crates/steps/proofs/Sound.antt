@@ -8,7 +8,7 @@ use lib.Dec.{eqb}
 use lib.ListN.{length}
 use Rattle.laws.proofs.Conditions.{and-first, and-second, and-both}
 use Rattle.terms.specs.Answers.{numberOf}
-use Rattle.turns.specs.Turns.{Turn, taken, within}
+use Rattle.turns.specs.Turns.{Turn, taken, turnWith}
 use Rattle.turns.proofs.Turns.{either}
 use Rattle.panels.specs.Records.{familyW, familyK}
 use Rattle.panels.specs.Valid.{okW, okK, okIds, zeroIds, okFamily, okPanel}
@@ -53,7 +53,7 @@ serial-heard (serialIs.Broken s) vs w z l = absurd (omega arith)
 serial-heard (serialIs.NotUnderstood s) vs w z l = absurd (omega arith)
 serial-heard (serialIs.Understood s o) vs w z l = absurd (z refl)
 
-frame-heard : (h : frameHeard.Heard) (s : List ℕ) (k : KRecord) → Quiet (numberOf (frames.decided k h .answer)) (frames.spelled s (frames.decided k h) .reply)
+frame-heard : (h : frameHeard.Heard) (s : List ℕ) (k : KRecord) → Quiet (numberOf (frames.decided k h .answer)) (frames.turned s (frames.decided k h) .reply)
 unfolding frames.decided frameTexts.bytesOf
 frame-heard (frameIs.Refused a) s k z l = refl
 frame-heard frameIs.NotUnderstood s k z l = absurd (omega arith)
@@ -119,27 +119,27 @@ pub record Sound (p : Panel) (t : Turn Panel) : Type 0 where
   pub unmoved : (numberOf (t .answer) ≡ 0 → ⊥) → t .after ≡ p
   pub quiet : Quiet (numberOf (t .answer)) (t .reply)
 
-within-w : (p : Panel) (t : Turn WRecord) → (okW (p .w) ≡ true → okW (t .after) ≡ true) → ((numberOf (t .answer) ≡ 0 → ⊥) → t .after ≡ p .w) → Quiet (numberOf (t .answer)) (t .reply) → Sound p (within (withW p) t)
+turn-with-w : (p : Panel) (t : Turn WRecord) → (okW (p .w) ≡ true → okW (t .after) ≡ true) → ((numberOf (t .answer) ≡ 0 → ⊥) → t .after ≡ p .w) → Quiet (numberOf (t .answer)) (t .reply) → Sound p (turnWith (withW p) t)
 unfolding okPanel
-within-w p t v u q = record { known = known p (t .after) (p .k); ok-kept = with-w p (t .after) v; unmoved = λ z. ap (withW p) (u z); quiet = q }
+turn-with-w p t v u q = record { known = known p (t .after) (p .k); ok-kept = with-w p (t .after) v; unmoved = λ z. ap (withW p) (u z); quiet = q }
 
-within-k : (p : Panel) (t : Turn KRecord) → (okK (p .k) ≡ true → okK (t .after) ≡ true) → ((numberOf (t .answer) ≡ 0 → ⊥) → t .after ≡ p .k) → Quiet (numberOf (t .answer)) (t .reply) → Sound p (within (withK p) t)
+turn-with-k : (p : Panel) (t : Turn KRecord) → (okK (p .k) ≡ true → okK (t .after) ≡ true) → ((numberOf (t .answer) ≡ 0 → ⊥) → t .after ≡ p .k) → Quiet (numberOf (t .answer)) (t .reply) → Sound p (turnWith (withK p) t)
 unfolding okPanel
-within-k p t v u q = record { known = known p (p .w) (t .after); ok-kept = with-k p (t .after) v; unmoved = λ z. ap (withK p) (u z); quiet = q }
+turn-with-k p t v u q = record { known = known p (p .w) (t .after); ok-kept = with-k p (t .after) v; unmoved = λ z. ap (withK p) (u z); quiet = q }
 
 -- whatever the message and the panel: for a panel of the other family too, whose own record the turn does not touch
 pub sound : (m : Message) (p : Panel) → Sound p (turn m p)
 unfolding turn
 sound (rs232c l m area) p =
-    within-w p _ (serialValidity.stays-valid (length area) m (p .w)) (serialRefusals.refusal-leaves (length area) m (p .w))
+    turn-with-w p _ (serialValidity.stays-valid (length area) m (p .w)) (serialRefusals.refusal-leaves (length area) m (p .w))
     (quiet (length area) (serial.turnOf m) (p .w) (serial-heard (serialAsks.heardOf m) (serialAsks.valuesOf m) (p .w)))
 sound (kjw l m area) p =
-    within-k p _ (frameValidity.taken-valid (length area) m (p .k))
+    turn-with-k p _ (frameValidity.taken-valid (length area) m (p .k))
     (λ z. frameRefusals.taken-unchanged (length area) m (p .k) (λ e. z (ap numberOf e)))
     (quiet (length area) (frames.turnOf m) (p .k) (frame-quiet m (p .k)))
 sound (tcp l m area) p =
-    within-w p _ (packetValidity.stays-valid (length area) m (p .w)) (packetRefusals.refusal-leaves (length area) m (p .w))
+    turn-with-w p _ (packetValidity.stays-valid (length area) m (p .w)) (packetRefusals.refusal-leaves (length area) m (p .w))
     (quiet (length area) (packets.turnOf m) (p .w) (packet-heard m (packetAsks.heardOf m) (p .w)))
 sound (udp m) p =
-    within-w p _ (packetValidity.turned-valid m (p .w)) (packetRefusals.turn-leaves m (packetAsks.heardOf m) (p .w))
+    turn-with-w p _ (packetValidity.turned-valid m (p .w)) (packetRefusals.turn-leaves m (packetAsks.heardOf m) (p .w))
     (packet-heard m (packetAsks.heardOf m) (p .w))

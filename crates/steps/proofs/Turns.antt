@@ -118,7 +118,7 @@ own-turn {l} {area} {m} ns b i k a = ap (λ (j : ℕ). turn m (panelAt j b)) (pl
     place {n} (by-tcp x) e = less (target ns n) e
 
 -- a message with a link has the answer and the reply of the one panel that it comes to
-pub record Told (b : DisplayBox) (m : Message) (i : ℕ) : Type 0 where
+pub record GoesBack (b : DisplayBox) (m : Message) (i : ℕ) : Type 0 where
   pub answer-is : step b m .answer ≡ turn m (panelAt i b) .answer
   pub back-is : step b m .back ≡ back m (turn m (panelAt i b) .reply)
 
@@ -127,9 +127,9 @@ link-answer ns b (by-rs232c m) = refl
 link-answer ns b (by-kjw m) = refl
 link-answer ns b (by-tcp m) = refl
 
-pub told : {b : DisplayBox} {m : Message} {i l : ℕ} {area : List ℕ} → Lends l area m → Reaches b m i → Told b m i
+pub goes-back : {b : DisplayBox} {m : Message} {i l : ℕ} {area : List ℕ} → Lends l area m → Reaches b m i → GoesBack b m i
 unfolding step
-told {b} {m} {i} k r = record {
+goes-back {b} {m} {i} k r = record {
   answer-is = ap (λ (o : Outcome). o .answer) e ∙ link-answer (names b) b k ∙ ap (λ (t : Turn Panel). t .answer) (own-turn (names b) b i k (r .meant));
   back-is = ap (λ (o : Outcome). o .back) e ∙ ap (λ (t : Turn Panel). back m (t .reply)) (own-turn (names b) b i k (r .meant));
 }

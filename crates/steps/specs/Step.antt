@@ -9,7 +9,7 @@ use Rattle.laws.specs.Runs.{each}
 use Rattle.terms.specs.Answers.{numberOf}
 use Rattle.terms.specs.declared.Answer.{Answer}
 use Rattle.terms.specs.declared.Answer.the-variants.{Done, AreaTooSmall, NoSuchPanel, WrongLength, NotForUs}
-use Rattle.turns.specs.Turns.{Turn, taken, within}
+use Rattle.turns.specs.Turns.{Turn, taken, turnWith}
 use Rattle.panels.specs.Records.{pastEnd}
 use Rattle.panels.specs.declared.Panel.{Panel}
 use Rattle.panels.specs.declared.WRecord.{WRecord}
@@ -56,10 +56,10 @@ door ns (udp m) = cond (anyCalled m ns) Done (toNobody m)
 -- ---- what a panel does with a message that is addressed to it: it sees its own record alone
 
 unfoldable pub turn : Message → Panel → Turn Panel
-turn (rs232c l m area) p = within (withW p) (taken (length area) (serial.turnOf m) (p .w))
-turn (kjw l m area) p = within (withK p) (taken (length area) (frames.turnOf m) (p .k))
-turn (tcp l m area) p = within (withW p) (taken (length area) (packets.turnOf m) (p .w))
-turn (udp m) p = within (withW p) (packets.turnOf m (p .w))
+turn (rs232c l m area) p = turnWith (withW p) (taken (length area) (serial.turnOf m) (p .w))
+turn (kjw l m area) p = turnWith (withK p) (taken (length area) (frames.turnOf m) (p .k))
+turn (tcp l m area) p = turnWith (withW p) (taken (length area) (packets.turnOf m) (p .w))
+turn (udp m) p = turnWith (withW p) (packets.turnOf m (p .w))
 
 -- ---- the step
 

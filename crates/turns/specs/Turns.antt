@@ -24,8 +24,8 @@ unfoldable pub taken : {R : Type 0} → ℕ → (R → Turn R) → R → Turn R
 taken room turn x = cond (ltb room 512) (left x AreaTooSmall) (turn x)
 
 -- the turn of what has the record for a part
-abbrev pub within : {A B : Type 0} → (A → B) → Turn A → Turn B
-within f t = record { after = f (t .after); answer = t .answer; reply = t .reply }
+abbrev pub turnWith : {A B : Type 0} → (A → B) → Turn A → Turn B
+turnWith f t = record { after = f (t .after); answer = t .answer; reply = t .reply }
 
 -- the promise at a protocol's door: the record after the message, the answer, the reply's length and every byte of the area
 pub record Takes {R : Type 0} (turn : R → Turn R) (x : R) (area : List ℕ) (x′ : R) (answer : Answer) (len : ℕ) (area′ : List ℕ) : Type 0 where

@@ -170,18 +170,18 @@ done Rs232c b l m area h y n = rw (le-ltb (length area) 512 h, y)
 done Kjw b l m area h y n = rw (le-ltb (length area) 512 h, y)
 done Tcp b l m area h y n = rw (le-ltb (length area) 512 h, y, ne-eqb (byTcp (names b) l m) 0 n)
 
-pub data Came (b : DisplayBox) (m : Message) : Door → Type 0 where
-  turned-away : (a : Answer) → step b m ≡ refused b m a → Came b m (Shut a)
-  let-in : (i : ℕ) → step b m ≡ stored b m i → Came b m (At i)
+pub data AtDoor (b : DisplayBox) (m : Message) : Door → Type 0 where
+  turned-away : (a : Answer) → step b m ≡ refused b m a → AtDoor b m (Shut a)
+  let-in : (i : ℕ) → step b m ≡ stored b m i → AtDoor b m (At i)
 
-inner : (line : Line) (b : DisplayBox) (l : ℕ) (m area : List ℕ) (d : Door) → length (names b) ≤ length (b .panels) → (x : Bool) → ltb (length area) 512 ≡ x → (y : Bool) → isOf line (onLink (names b) l) ≡ y → (z : Bool) → eqb (targetBy line (names b) l m) 0 ≡ z → cond x (Shut AreaTooSmall) (cond y (cond z (Shut (toNobody m)) (At (targetBy line (names b) l m - 1))) (Shut NoSuchPanel)) ≡ d → Came b (messageOf line l m area) d
-inner line b l m area d k true ex y ey z ez e = subst (Came b (messageOf line l m area)) e (turned-away AreaTooSmall (too-small b l area (messageOf line l m area) (lends line l m area) (ltb-true (length area) 512 ex)))
-inner line b l m area d k false ex false ey z ez e = subst (Came b (messageOf line l m area)) e (turned-away NoSuchPanel (no-such-panel b l area (messageOf line l m area) (lends line l m area) (ltb-false (length area) 512 ex) (speaks-to line l m area (onLink (names b) l) ∙ ey)))
-inner line b l m area d k false ex true ey true ez e = subst (Came b (messageOf line l m area)) e (turned-away (toNobody m) (to-nobody line b l m area (ltb-false (length area) 512 ex) ey (eqb-true (targetBy line (names b) l m) 0 ez)))
+inner : (line : Line) (b : DisplayBox) (l : ℕ) (m area : List ℕ) (d : Door) → length (names b) ≤ length (b .panels) → (x : Bool) → ltb (length area) 512 ≡ x → (y : Bool) → isOf line (onLink (names b) l) ≡ y → (z : Bool) → eqb (targetBy line (names b) l m) 0 ≡ z → cond x (Shut AreaTooSmall) (cond y (cond z (Shut (toNobody m)) (At (targetBy line (names b) l m - 1))) (Shut NoSuchPanel)) ≡ d → AtDoor b (messageOf line l m area) d
+inner line b l m area d k true ex y ey z ez e = subst (AtDoor b (messageOf line l m area)) e (turned-away AreaTooSmall (too-small b l area (messageOf line l m area) (lends line l m area) (ltb-true (length area) 512 ex)))
+inner line b l m area d k false ex false ey z ez e = subst (AtDoor b (messageOf line l m area)) e (turned-away NoSuchPanel (no-such-panel b l area (messageOf line l m area) (lends line l m area) (ltb-false (length area) 512 ex) (speaks-to line l m area (onLink (names b) l) ∙ ey)))
+inner line b l m area d k false ex true ey true ez e = subst (AtDoor b (messageOf line l m area)) e (turned-away (toNobody m) (to-nobody line b l m area (ltb-false (length area) 512 ex) ey (eqb-true (targetBy line (names b) l m) 0 ez)))
 inner line b l m area d k false ex true ey false ez e =
     let n = eqb-false (targetBy line (names b) l m) 0 ez in
     let t = target-bound line (names b) l m ey in
-    subst (Came b (messageOf line l m area)) e
+    subst (AtDoor b (messageOf line l m area)) e
     (let-in (targetBy line (names b) l m - 1) (one-turn b (messageOf line l m area) (targetBy line (names b) l m) (links line l m area) (done line b l m area (ltb-false (length area) 512 ex) ey n) (targets line (names b) l m area) (omega arith) (omega arith)))
 
 -- no more names than places
@@ -198,18 +198,18 @@ names-fit b = go (valid b)
     go true = taken (b .count) (b .panels)
     go false = omega arith
 
-pub came : (line : Line) (b : DisplayBox) (l : ℕ) (m area : List ℕ) (d : Door) → opened line (names b) l m (length area) ≡ d → Came b (messageOf line l m area) d
+pub at-door : (line : Line) (b : DisplayBox) (l : ℕ) (m area : List ℕ) (d : Door) → opened line (names b) l m (length area) ≡ d → AtDoor b (messageOf line l m area) d
 unfolding opened
-came line b l m area d e = inner line b l m area d (names-fit b) (ltb (length area) 512) refl (isOf line (onLink (names b) l)) refl (eqb (targetBy line (names b) l m) 0) refl e
+at-door line b l m area d e = inner line b l m area d (names-fit b) (ltb (length area) 512) refl (isOf line (onLink (names b) l)) refl (eqb (targetBy line (names b) l m) 0) refl e
 
 -- ---- as the code reads it
 
 names-read : (b : DisplayBox) (j : Judged) → j ≡ judged b → map idName (j .ids) ≡ names b ++ replicate (padded b .0) nobody
 names-read b j e = ap (λ (x : Judged). map idName (x .ids)) e ∙ padded b .1
 
-pub read : (line : Line) (b : DisplayBox) (l : ℕ) (m area : List ℕ) (j : Judged) (d : Door) → j ≡ judged b → opened line (map idName (j .ids)) l m (length area) ≡ d → Came b (messageOf line l m area) d
+pub read : (line : Line) (b : DisplayBox) (l : ℕ) (m area : List ℕ) (j : Judged) (d : Door) → j ≡ judged b → opened line (map idName (j .ids)) l m (length area) ≡ d → AtDoor b (messageOf line l m area) d
 read line b l m area j d e o =
-    came line b l m area d
+    at-door line b l m area d
     (sym (opened-padded line (names b) (padded b .0) l m (length area)) ∙ ap (λ (ns : List Name). opened line ns l m (length area)) (sym (names-read b j e)) ∙ o)
 
 pub called-read : (b : DisplayBox) (m : List ℕ) (j : Judged) → j ≡ judged b → anyCalled m (map idName (j .ids)) ≡ anyCalled m (names b)

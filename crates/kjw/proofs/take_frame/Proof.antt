@@ -7,7 +7,7 @@ use lib.ListN.{length}
 use borrow.Author.Needs.{needs}
 use Rattle.kjw_asks.specs.Frames.{lettersOf}
 use Rattle.kjw_asks.specs.Asks.{heardOf}
-use Rattle.kjw.specs.Replies.{decided, spelled, turnOf}
+use Rattle.kjw.specs.Replies.{decided, turned, turnOf}
 use Rattle.panels.specs.declared.KRecord.{KRecord}
 use Rattle.kjw_sets.specs.declared.Heard.{Heard}
 use Rattle.kjw.specs.declared.Decided.{Decided}
@@ -17,7 +17,7 @@ use Rattle.turns.proofs.Turns.{takes-small, takes-turn}
 use Rattle.kjw.proofs.take_frame.Statement.{statement}
 use Rattle.kjw.proofs.take_frame.Tie as tie
 
-asked : (k : KRecord) (m l : List ℕ) (h : Heard) (t : Decided) → l ≡ lettersOf m → h ≡ heardOf m → t ≡ decided k h → turnOf m k ≡ spelled l t
+asked : (k : KRecord) (m l : List ℕ) (h : Heard) (t : Decided) → l ≡ lettersOf m → h ≡ heardOf m → t ≡ decided k h → turnOf m k ≡ turned l t
 unfolding turnOf
 asked k m l h t el eh et = rw (← eh, ← et, ← el)
 

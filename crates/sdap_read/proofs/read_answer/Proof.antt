@@ -8,12 +8,12 @@ use borrow.Author.Needs.{needs}
 use Rattle.laws.specs.Bytes.{part}
 use Rattle.laws.specs.Numbers.{number}
 use Rattle.sdap.specs.Layout.{fieldsOf}
-use Rattle.sdap.specs.Rules.{verdict, judged, readAnswer}
+use Rattle.sdap.specs.Rules.{verdict, verdictOf, readAnswer}
 use Rattle.terms.specs.declared.Answer.{Answer}
 use Rattle.sdap_read.proofs.read_answer.Statement.{statement}
 use Rattle.sdap_read.proofs.read_answer.Tie as tie
 
-agreed : (l : List ℕ) (r : Answer) (power error : ℕ) → power ≡ number (part 24 2 l) → error ≡ number (part 70 2 l) → r ≡ verdict (getD l 3 0) power error (part 8 12 l) (part 26 24 l) (part 72 24 l) (part 96 24 l) → r ≡ judged (fieldsOf l)
+agreed : (l : List ℕ) (r : Answer) (power error : ℕ) → power ≡ number (part 24 2 l) → error ≡ number (part 70 2 l) → r ≡ verdict (getD l 3 0) power error (part 8 12 l) (part 26 24 l) (part 72 24 l) (part 96 24 l) → r ≡ verdictOf (fieldsOf l)
 unfolding fieldsOf
 agreed l r power error p e q = q ∙ rw (p, e)
 

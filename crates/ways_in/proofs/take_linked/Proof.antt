@@ -12,15 +12,15 @@ use Rattle.addresses.specs.declared.Line.{Line}
 use Rattle.addresses.specs.declared.Door.the-variants.{Shut, At}
 use Rattle.ways_in.specs.Promise.{Steps, messageOf}
 use Rattle.ways_in.specs.declared.Outcome.{Outcome}
-use Rattle.ways_in.proofs.Doors.{Came, turned-away, let-in, lends, read, place-read}
+use Rattle.ways_in.proofs.Doors.{AtDoor, turned-away, let-in, lends, read, place-read}
 use Rattle.ways_in.proofs.Stores.{refuses, stored, acted}
 use Rattle.ways_in.proofs.take_linked.Statement.{statement}
 use Rattle.ways_in.proofs.take_linked.Tie as tie
 
-shut : (line : Line) (b : DisplayBox) (l : ℕ) (m area : List ℕ) (a : Answer) (r : Outcome) → Came b (messageOf line l m area) (Shut a) → r ≡ record { after = b; answer = a; len = 0 } → Steps b (messageOf line l m area) r area
+shut : (line : Line) (b : DisplayBox) (l : ℕ) (m area : List ℕ) (a : Answer) (r : Outcome) → AtDoor b (messageOf line l m area) (Shut a) → r ≡ record { after = b; answer = a; len = 0 } → Steps b (messageOf line l m area) r area
 shut line b l m area a r (turned-away _ e) q = refuses b (messageOf line l m area) area a r e q (none-sent l area (messageOf line l m area) (lends line l m area))
 
-opens-to : (line : Line) (b : DisplayBox) (l : ℕ) (m area : List ℕ) (i : ℕ) → Came b (messageOf line l m area) (At i) → step b (messageOf line l m area) ≡ stored b (messageOf line l m area) i
+opens-to : (line : Line) (b : DisplayBox) (l : ℕ) (m area : List ℕ) (i : ℕ) → AtDoor b (messageOf line l m area) (At i) → step b (messageOf line l m area) ≡ stored b (messageOf line l m area) i
 opens-to line b l m area i (let-in _ e) = e
 
 judge-requires : tie.Need-judge-requires
