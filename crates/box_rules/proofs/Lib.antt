@@ -1,2 +1,3 @@
 pub mod Determined
 mod Distinct
+mod Ring

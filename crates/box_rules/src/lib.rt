@@ -1,21 +1,18 @@
 // A box judged by the rules: how many panels, each by itself, and no two W panels that share both IDs (document 01, "The box and its messages").
+use octets::number2;
 use panel_rules::panel_ok;
 use panels::DisplayBox;
 use panels::FAMILY_W;
 use panels::Panel;
 use terms::GroupId;
 use terms::UnitId;
-use terms::same_group;
-use terms::same_unit;
 ghost use mathlib.Core.Path.{_≡_};
-ghost use Prim.Native.Nat.{_+_, _<_, _≤_};
-ghost use mathlib.Core.Bool.{false, _&&_};
-ghost use mathlib.Core.List.{map};
-ghost use lib.Dec.{leb};
-ghost use lib.ListN.{take, drop, replicate};
-ghost use Rattle.laws.specs.Lists.{every};
-ghost use Rattle.panels.specs.Valid.{okPanel, share, apart, distinct, valid};
-ghost use Rattle.box_rules.specs.Pairs.{noIds, bare, gathered, judged};
+ghost use Prim.Native.Nat.{_<_, _≤_};
+ghost use mathlib.Core.Bool.{false};
+ghost use lib.ListN.{replicate};
+ghost use Rattle.panels.specs.Valid.{okPanel, valid};
+ghost use Rattle.box_rules.specs.Pairs.{idsOf, noIds, judged};
+ghost use Rattle.box_rules.specs.Ring.{pairAt, Sees, apartBy, allApart};
 
 // What a panel is called by: three bytes, where a whole panel is sixty. Family 0 is no panel.
 pub struct Ids {
@@ -30,53 +27,61 @@ pub struct Judged {
     pub ids: [Ids; 8],
 }
 
-// Two W panels that share both IDs. A group is compared with a group and a unit with a unit; the group is asked first, since it tells
-// most panels apart.
-fn share_pair(p: Ids, q: Ids) -> bool
-    ensures { λ r. ⌜ r ≡ share (bare p) (bare q) ⌝ }
-{
-    if !same_group(p.group, q.group) {
-        return false;
-    }
-    if !same_unit(p.unit, q.unit) {
-        return false;
-    }
-    if p.family != FAMILY_W {
-        return false;
-    }
-    q.family == FAMILY_W
+// What was seen of the panels in one walk through them: whether each is good by itself, what they are called by, and their pairs as
+// numbers, eight places and the same eight again.
+struct Seen {
+    good: bool,
+    ids: [Ids; 8],
+    ring: [u16; 16],
 }
 
-// The same of the panel at place i, where only those from a place on count.
-fn share_from(p: Ids, q: Ids, from: usize, i: usize) -> bool
-    ensures { λ r. ⌜ r ≡ (leb from i && share (bare p) (bare q)) ⌝ }
-{
-    if i < from {
-        return false;
-    }
-    share_pair(p, q)
+// What was seen of one panel: whether it is good by itself, and what it is called by.
+struct Glance {
+    good: bool,
+    ids: Ids,
 }
 
-// The first n panels are good by themselves.
-fn all_ok(ps: [Panel; 8], n: usize) -> bool
+// What a panel is called by.
+pub fn called_by(p: Panel) -> Ids
+    ensures { λ r. ⌜ r ≡ idsOf p ⌝ }
+{
+    let group = p.group;
+    let unit = p.unit;
+    Ids {
+        family: p.family,
+        group,
+        unit,
+    }
+}
+
+// The pair of a W panel as one number, so that two are compared at once. Its group is 1 or more, so it is above the number of every
+// place: that number stands where there is no W panel, and is like no other.
+fn pair_at(d: Ids, k: usize) -> u16
+    requires { ⌜ k < 8 ⌝ }
+    ensures { λ r. ⌜ r ≡ pairAt d k ⌝ }
+{
+    if d.family != FAMILY_W {
+        return k as u16;
+    }
+    let g = d.group;
+    let u = d.unit;
+    number2(g.0, u.0)
+}
+
+// One panel by itself.
+fn look_at(p: Panel) -> Glance
+    ensures { λ r. ⌜ r ≡ record { good = okPanel p; ids = idsOf p } ⌝ }
+{
+    Glance {
+        good: panel_ok(p),
+        ids: called_by(p),
+    }
+}
+
+// The first n panels, one by one. The places behind them have no panel.
+fn look_through(ps: [Panel; 8], n: usize) -> Seen
     requires { ⌜ n ≤ 8 ⌝ }
-    ensures { λ r. ⌜ r ≡ every okPanel (take n ps) ⌝ }
-{
-    let mut i = 0;
-    while i < n {
-        let p = ps[i];
-        if !panel_ok(p) {
-            return false;
-        }
-        i += 1;
-    }
-    true
-}
-
-// The family and the IDs of the first n panels, each at its place.
-fn ids_of(ps: [Panel; 8], n: usize) -> [Ids; 8]
-    requires { ⌜ n ≤ 8 ⌝ }
-    ensures { λ r. ⌜ r ≡ gathered ps n ⌝ }
+    ensures { λ r. ⌜ Sees ps n (r .good) (r .ids) (r .ring) ⌝ }
 {
     let none = Ids {
         family: 0,
@@ -84,49 +89,61 @@ fn ids_of(ps: [Panel; 8], n: usize) -> [Ids; 8]
         unit: UnitId(0),
     };
     let mut ids = [none; 8];
+    let mut ring = [0, 1, 2, 3, 4, 5, 6, 7, 0, 1, 2, 3, 4, 5, 6, 7];
     let mut i = 0;
     while i < n {
-        let p = ps[i];
-        let group = p.group;
-        let unit = p.unit;
-        ids[i] = Ids {
-            family: p.family,
-            group,
-            unit,
-        };
+        let seen = look_at(ps[i]);
+        if !seen.good {
+            return Seen {
+                good: false,
+                ids,
+                ring,
+            };
+        }
+        let d = seen.ids;
+        ids[i] = d;
+        let pair = pair_at(d, i);
+        ring[i] = pair;
+        ring[i + 8] = pair;
         i += 1;
     }
-    ids
+    Seen {
+        good: true,
+        ids,
+        ring,
+    }
 }
 
-// None of the panels from a place on shares its pair with p. The bounds are fixed, so that the compiler can lay the turns out.
-fn apart_from(p: Ids, ids: [Ids; 8], from: usize) -> bool
-    ensures { λ r. ⌜ r ≡ every (apart (bare p)) (drop from (map bare ids)) ⌝ }
+// No panel has the pair of the one d places on. There is no way out of the loop, so that the compiler compares all eight at once.
+fn apart_by(ring: [u16; 16], d: usize) -> bool
+    requires { ⌜ d ≤ 8 ⌝ }
+    ensures { λ r. ⌜ r ≡ apartBy ring d ⌝ }
 {
+    let mut ok = true;
     let mut i = 0;
     while i < 8 {
-        let q = ids[i];
-        if share_from(p, q, from, i) {
-            return false;
+        if ring[i] == ring[i + d] {
+            ok = false;
         }
         i += 1;
     }
-    true
+    ok
 }
 
-// "No two W panels share both."
-fn all_apart(ids: [Ids; 8]) -> bool
-    ensures { λ r. ⌜ r ≡ distinct (map bare ids) ⌝ }
+// "No two W panels share both": of eight in a ring any two are four places apart at most.
+fn all_apart(ring: [u16; 16]) -> bool
+    ensures { λ r. ⌜ r ≡ allApart ring ⌝ }
 {
-    let mut i = 0;
-    while i < 8 {
-        let p = ids[i];
-        if !apart_from(p, ids, i + 1) {
-            return false;
-        }
-        i += 1;
+    if !apart_by(ring, 1) {
+        return false;
     }
-    true
+    if !apart_by(ring, 2) {
+        return false;
+    }
+    if !apart_by(ring, 3) {
+        return false;
+    }
+    apart_by(ring, 4)
 }
 
 // "A box handed in that breaks these rules [..] is answered as a box of no panels."
@@ -156,13 +173,15 @@ pub fn judge(b: DisplayBox) -> Judged
         return broken();
     }
     let ps = b.panels;
-    if !all_ok(ps, n) {
+    let seen = look_through(ps, n);
+    if !seen.good {
         return broken();
     }
-    let ids = ids_of(ps, n);
-    if !all_apart(ids) {
+    let ring = seen.ring;
+    if !all_apart(ring) {
         return broken();
     }
+    let ids = seen.ids;
     Judged { good: true, ids }
 }
 
