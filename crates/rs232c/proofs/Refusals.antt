@@ -1,17 +1,21 @@
--- Every answer but 0 leaves the record, and byte counts 0, 1 and 2 never pass: by the cases of what a message asks.
+-- Every answer but 0 leaves the record, byte counts 0, 1 and 2 never pass, and what the document refuses is refused: by the cases of what a message asks.
 use mathlib.Core.Path.{_≡_, refl}
-use mathlib.Core.Bool.{false}
+use mathlib.Core.Bool.{Bool, true, false, cond, not, _||_, or-true, and-false}
 use mathlib.Core.List.{List}
 use Prim.Native.Nat.{ℕ, _+_, _<_, _≤_}
 use native.Mathlib.Omega.{arith}
 use lib.ListN.{length, getD}
-use borrow.Author.Tests.{le-ltb, ne-eqb}
+use lib.Dec.{eqb, ltb}
+use borrow.Author.Tests.{lt-ltb, le-ltb, ne-eqb}
+use Rattle.laws.specs.Lists.{listed}
 use Rattle.terms.specs.Answers.{numberOf}
-use Rattle.terms.specs.declared.Answer.the-variants.{EnvelopeWrong}
+use Rattle.terms.specs.declared.Answer.the-variants.{WrongLength, NotForUs, EnvelopeWrong}
 use Rattle.turns.specs.Turns.{taken}
 use Rattle.turns.proofs.Turns.{refusal-leaves as leaves}
+use Rattle.panels.specs.Records.{connectors, presets}
 use Rattle.panels.specs.declared.WRecord.{WRecord}
-use Rattle.rs232c_asks.specs.Asks.{isForeign, isBroken, heardOf, valuesOf}
+use Rattle.rs232c_asks.specs.Commands.{connectorMarked, presetMarked, connectorOf, presetOf, actOf, connectorGood, presetGood, configGood, selectGood}
+use Rattle.rs232c_asks.specs.Asks.{isForeign, isBroken, configCommand, selectCommand, heardOf, valuesOf}
 use Rattle.rs232c_tells.specs.Texts.{bytesOf}
 use Rattle.rs232c.specs.Replies.{turned, turnOf}
 use Rattle.rs232c_asks.specs.declared.Heard.{Heard}
@@ -40,3 +44,52 @@ small-counts-broken m h f k =
 pub small-counts-told : (room : ℕ) (m : List ℕ) (w : WRecord) → 512 ≤ room → 6 ≤ length m → isForeign m ≡ false → getD m 1 0 < 3 → taken room (turnOf m) w ≡ record { after = w; answer = EnvelopeWrong; reply = bytesOf (Nak (getD m 3 0)) }
 unfolding taken turned
 small-counts-told room m w r h f k = rw (le-ltb room 512 r, small-counts-broken m h f k)
+
+-- "Under 6 bytes: 3."
+pub short-refused : (m : List ℕ) → length m < 6 → heardOf m ≡ Refused WrongLength
+unfolding heardOf
+short-refused m h = rw (lt-ltb (length m) 6 h)
+
+-- "First byte not 02h, destination not 01h, or source outside 41h to 7Fh: 4."
+pub foreign-refused : (m : List ℕ) → 6 ≤ length m → isForeign m ≡ true → heardOf m ≡ Refused NotForUs
+unfolding heardOf
+foreign-refused m h f = rw (le-ltb (length m) 6 h, f)
+
+pub first-foreign : (m : List ℕ) → (getD m 0 0 ≡ 2 → ⊥) → isForeign m ≡ true
+unfolding isForeign
+first-foreign m n = rw (ne-eqb (getD m 0 0) 2 n)
+
+pub destination-foreign : (m : List ℕ) → (getD m 2 0 ≡ 1 → ⊥) → isForeign m ≡ true
+unfolding isForeign
+destination-foreign m n = rw (ne-eqb (getD m 2 0) 1 n, or-true (not (eqb (getD m 0 0) 2)))
+
+pub low-source-foreign : (m : List ℕ) → getD m 3 0 < 0x41 → isForeign m ≡ true
+unfolding isForeign
+low-source-foreign m h = rw (lt-ltb (getD m 3 0) 0x41 h, or-true (not (eqb (getD m 0 0) 2) || not (eqb (getD m 2 0) 1)))
+
+pub high-source-foreign : (m : List ℕ) → 0x7f < getD m 3 0 → isForeign m ≡ true
+unfolding isForeign
+high-source-foreign m h = rw (lt-ltb 0x7f (getD m 3 0) h) (or-true (not (eqb (getD m 0 0) 2) || not (eqb (getD m 2 0) 1) || ltb (getD m 3 0) 0x41))
+
+-- what is refused either way is refused
+either-way : {A : Type 0} (b : Bool) (x : A) → cond b x x ≡ x
+either-way true x = refl
+either-way false x = refl
+
+-- "A marked code not listed: 6."
+pub connector-unlisted : (source n marks byte : ℕ) → connectorMarked marks ≡ true → listed connectors (connectorOf byte) ≡ false → configCommand source n marks byte ≡ NotUnderstood source
+unfolding configCommand configGood connectorGood
+connector-unlisted source n marks byte m u = rw (m, u) (either-way (not (eqb n 2)) (NotUnderstood source))
+
+pub preset-unlisted : (source n marks byte : ℕ) → presetMarked marks ≡ true → listed presets (presetOf byte) ≡ false → configCommand source n marks byte ≡ NotUnderstood source
+unfolding configCommand configGood presetGood
+preset-unlisted source n marks byte m u = rw (m, u, and-false (connectorGood marks byte)) (either-way (not (eqb n 2)) (NotUnderstood source))
+
+-- "Act 0, or an unlisted connector with act 1 or 2: 6."
+pub act-zero : (source n byte : ℕ) → actOf byte ≡ 0 → selectCommand source n byte ≡ NotUnderstood source
+unfolding selectCommand selectGood
+act-zero source n byte a = rw a (either-way (not (eqb n 1)) (NotUnderstood source))
+
+pub unlisted-not-selected : (source n byte : ℕ) → (actOf byte ≡ 3 → ⊥) → listed connectors (connectorOf byte) ≡ false → selectCommand source n byte ≡ NotUnderstood source
+unfolding selectCommand selectGood
+unlisted-not-selected source n byte a u = rw (ne-eqb (actOf byte) 3 a, u, either-way (eqb (actOf byte) 0) false) (either-way (not (eqb n 1)) (NotUnderstood source))

@@ -1,12 +1,13 @@
 -- A reply's packet is what is laid over the area part by part, and what was not refused has its thirteen bytes.
 use Prim.Native.Nat.{ℕ, _+_, _≤_}
-use mathlib.Core.Path.{_≡_, refl, sym, ap, _∙_}
+use mathlib.Core.Path.{_≡_, refl, sym, ap, subst, _∙_}
 use mathlib.Core.Bool.{Bool, true, false, not, cond}
 use mathlib.Core.List.{List, [], _∷_, _++_, append-assoc}
 use native.Mathlib.Omega.{arith}
 use lib.Dec.{ltb}
-use lib.ListN.{length, getD}
-use borrow.Author.Tests.{ltb-false}
+use lib.ListN.{length, getD, drop}
+use lib.Seq.{drop-append-seam}
+use borrow.Author.Tests.{ltb-false, le-ltb}
 use Rattle.laws.specs.Bytes.{part, laid, sent, Sent}
 use Rattle.laws.specs.Numbers.{inBytes}
 use Rattle.laws.proofs.Areas.{laid-first, laid-more, over-front}
@@ -85,3 +86,11 @@ heard-long m = short (ltb (length m) 13) refl
     short : (b : Bool) → ltb (length m) 13 ≡ b → Long m (cond b (Refused WrongLength) (cond (not (isOurs m)) (Refused NotForUs) (cond (isBroken m) Broken (inWords (readData (dataOf m))))))
     short true e = tt
     short false e = ours (not (isOurs m)) (ltb-false (length m) 13 e)
+
+-- "The data area, from byte 13 to its end, is read as it stands."
+pub data-stands : (head words : List ℕ) → length head ≡ 13 → dataOf (head ++ words) ≡ words
+data-stands head words e = subst (λ (n : ℕ). drop n (head ++ words) ≡ words) e (drop-append-seam head words)
+
+pub data-read : (m : List ℕ) → 13 ≤ length m → isOurs m ≡ true → isBroken m ≡ false → heardOf m ≡ inWords (readData (dataOf m))
+unfolding heardOf
+data-read m h o b = rw (le-ltb (length m) 13 h, o, b)
