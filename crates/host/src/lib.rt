@@ -36,7 +36,7 @@ pub extern "C" fn box_configure(b: &mut DisplayBox, configuration: &[u8]) -> u8
     m.answer
 }
 
-// A message to the host's box, by the number of its way in.
+// A message to the host's box, by the number of its way in. A refusal leaves the box, so nothing is stored then.
 #[no_mangle]
 pub extern "C" fn box_take(
     b: &mut DisplayBox,
@@ -50,7 +50,9 @@ pub extern "C" fn box_take(
         × (now (area .exit) ≡ called (now (b .entry)) way link (now (m .entry)) (now (area .entry)) .area)) ⌝ }
 {
     let t = take_message(*b, way, link, m, area);
-    *b = t.after;
+    if t.done {
+        *b = t.after;
+    }
     Outcome {
         answer: t.answer,
         len: t.len,

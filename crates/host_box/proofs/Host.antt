@@ -1,11 +1,11 @@
 -- What a host may count on at every way number: each is one of the four steps or no way at all, and each of these keeps it.
-use mathlib.Core.Path.{_≡_, refl, ap, _∙_}
+use mathlib.Core.Path.{_≡_, refl, sym, ap, _∙_}
 use mathlib.Core.Bool.{Bool, true, false}
 use mathlib.Core.List.{List}
 use Prim.Native.Nat.{ℕ}
 use lib.Dec.{ltb}
 use lib.ListN.{length}
-use borrow.Author.Tests.{ltb-true, ltb-false}
+use borrow.Author.Tests.{ltb-true, ltb-false, eqb-false}
 use Rattle.laws.specs.Lists.{listed}
 use Rattle.terms.specs.declared.Answer.{Answer}
 use Rattle.terms.specs.declared.Answer.the-variants.{AreaTooSmall, NoSuchPanel}
@@ -17,12 +17,13 @@ use Rattle.steps.specs.Step.{messageAnswers, Outcome, Back, step, refused}
 use Rattle.steps.proofs.Numbered as steps
 use Rattle.steps.proofs.Door.{Lends, by-rs232c, by-kjw, by-tcp}
 use Rattle.steps.proofs.Refusals.{none-sent, refused-leaves, too-small, bad-lent, bad-udp}
-use Rattle.host_box.specs.Called.{Called, inNumbers, noWay, wayOf, calledBy, called, panelBehind}
+use Rattle.host_box.specs.Called.{Called, inNumbers, noWay, wayOf, calledBy, called, numbersOf, panelBehind}
 use Rattle.addresses.specs.declared.Line.the-variants.{Rs232c, Kjw, Tcp}
 use Rattle.ways_in.specs.Promise.{withArea, unanswered}
 use Rattle.ways_in.specs.declared.Way.the-variants.{By, Udp}
 use Rattle.host_box.specs.declared.Entry.{Entry}
 use Rattle.host_box.specs.declared.Entry.the-variants.{Through, Nowhere}
+use Rattle.host_box.specs.declared.Outcome.{Outcome as Told}
 
 -- a message with a link, in numbers
 abbrev lent : Outcome → Called
@@ -44,6 +45,10 @@ module _ (b : DisplayBox) (way link : ℕ) (m area : List ℕ) where
   -- a refused message leaves every bit of the box
   pub refused-keeps : (called b way link m area .answer ≡ 0 → ⊥) → called b way link m area .box ≡ b
   refused-keeps = at-every (λ (c : Called). (c .answer ≡ 0 → ⊥) → c .box ≡ b) (λ msg k. refused-leaves b msg) (refused-leaves b (udp m)) (λ h. refl)
+
+  -- so what was not done has the very box that was handed in, and a host that keeps its own has the same
+  pub undone-keeps : (t : Told) → t ≡ numbersOf (called b way link m area) → t .done ≡ false → t .after ≡ b
+  undone-keeps t e d = ap (λ (x : Told). x .after) e ∙ refused-keeps (eqb-false (called b way link m area .answer) 0 (sym (ap (λ (x : Told). x .done) e) ∙ d))
 
   -- the answer to a message is one of the numbers that a message can be answered with
   pub numbered : listed messageAnswers (called b way link m area .answer) ≡ true

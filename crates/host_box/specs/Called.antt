@@ -53,8 +53,9 @@ calledBy Nowhere b link m area = noWay b area
 unfoldable pub called : DisplayBox → ℕ → ℕ → List ℕ → List ℕ → Called
 called b way link m area = calledBy (wayOf way) b link m area
 
+-- the number says whether it was done
 abbrev pub numbersOf : Called → Outcome
-numbersOf c = record { after = c .box; answer = c .answer; len = c .len }
+numbersOf c = record { after = c .box; answer = c .answer; len = c .len; done = eqb (c .answer) 0 }
 
 -- the panel behind a link: "numbered from 1 in the order given; that is also the link number"; all zeros where there is none,
 -- and a box that breaks the rules is "a box of no panels"

@@ -14,11 +14,12 @@ ghost use Rattle.terms.specs.Answers.{numberOf};
 ghost use Rattle.configure.specs.Configure.{configured};
 ghost use Rattle.host_box.specs.Called.{madeOf, wayOf, called, numbersOf, panelBehind};
 
-// What a message did: the box after it, the answer's number, and the reply's length.
+// What a message did: the box after it, the answer's number, the reply's length, and whether the number is 0.
 pub struct Outcome {
     pub after: DisplayBox,
     pub answer: u8,
     pub len: usize,
+    pub done: bool,
 }
 
 // What a configuration gave: the box, and the answer's number.
@@ -34,13 +35,14 @@ pub enum Entry {
 }
 
 // An outcome with its answer as a number.
-fn in_numbers(after: DisplayBox, answer: Answer, len: usize) -> Outcome
-    ensures { λ r. ⌜ r ≡ record { after = after; answer = numberOf answer; len = len } ⌝ }
+fn in_numbers(after: DisplayBox, answer: Answer, len: usize, done: bool) -> Outcome
+    ensures { λ r. ⌜ r ≡ record { after = after; answer = numberOf answer; len = len; done = done } ⌝ }
 {
     Outcome {
         after,
         answer: answer_number(answer),
         len,
+        done,
     }
 }
 
@@ -87,9 +89,10 @@ pub fn take_message(b: DisplayBox, way: u8, link: usize, m: &[u8], area: &mut [u
             let after = t.after;
             let answer = t.answer;
             let len = t.len;
-            in_numbers(after, answer, len)
+            let done = t.done;
+            in_numbers(after, answer, len, done)
         }
-        Entry::Nowhere => in_numbers(b, Answer::NoSuchPanel, 0),
+        Entry::Nowhere => in_numbers(b, Answer::NoSuchPanel, 0, false),
     }
 }
 

@@ -62,6 +62,7 @@ linked-steps b line l m area t area′ s = record {
   after-is = ap (λ (x : Outcome). x .after) (s .0);
   answer-is = ap (λ (x : Outcome). x .answer) (s .0);
   length-is = ap (λ (x : Outcome). x .len) (s .0);
+  done-is = ap (λ (x : Outcome). x .done) (s .0);
   area-is = s .1;
 }
 

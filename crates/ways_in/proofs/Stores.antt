@@ -9,6 +9,7 @@ use lib.ListN.{length, getD, set}
 use borrow.Author.Tests.{eq-eqb, ne-eqb}
 use Rattle.laws.specs.Runs.{each}
 use Rattle.laws.proofs.Runs.{each-one}
+use Rattle.terms.specs.Answers.{numberOf}
 use Rattle.terms.specs.declared.Answer.{Answer}
 use Rattle.terms.specs.declared.Answer.the-variants.{Done}
 use Rattle.turns.specs.Turns.{Turn}
@@ -22,22 +23,23 @@ use Rattle.steps.specs.Step.{withPanels, door, turn, Back, backOn, back, Outcom
 use Rattle.addresses.specs.declared.Line.{Line}
 use Rattle.addresses.specs.declared.Line.the-variants.{Rs232c, Kjw, Tcp}
 use Rattle.ways_in.specs.Promise.{Steps, messageOf}
-use Rattle.ways_in.specs.Turns.{Acts}
+use Rattle.ways_in.specs.Turns.{Acts, resting}
 use Rattle.ways_in.specs.declared.Acted.{Acted}
 use Rattle.ways_in.specs.declared.Outcome.{Outcome}
 
 -- the promise, from the step's outcome
-pub steps : (b : DisplayBox) (m : Message) (r : Outcome) (area′ : List ℕ) (o : Stepped) → step b m ≡ o → r .after ≡ o .box → r .answer ≡ o .answer → r .len ≡ o .back .len → area′ ≡ o .back .area → Steps b m r area′
-steps b m r area′ o e p q s t = record {
+pub steps : (b : DisplayBox) (m : Message) (r : Outcome) (area′ : List ℕ) (o : Stepped) → step b m ≡ o → r .after ≡ o .box → r .answer ≡ o .answer → r .len ≡ o .back .len → r .done ≡ eqb (numberOf (o .answer)) 0 → area′ ≡ o .back .area → Steps b m r area′
+steps b m r area′ o e p q s d t = record {
   after-is = p ∙ ap (λ (x : Stepped). x .box) (sym e);
   answer-is = q ∙ ap (λ (x : Stepped). x .answer) (sym e);
   length-is = s ∙ ap (λ (x : Stepped). x .back .len) (sym e);
+  done-is = d ∙ ap (λ (x : Stepped). eqb (numberOf (x .answer)) 0) (sym e);
   area-is = t ∙ ap (λ (x : Stepped). x .back .area) (sym e);
 }
 
 -- a refusal
-pub refuses : (b : DisplayBox) (m : Message) (area : List ℕ) (a : Answer) (r : Outcome) → step b m ≡ refused b m a → r ≡ record { after = b; answer = a; len = 0 } → back m [] ≡ record { len = 0; area = area } → Steps b m r area
-refuses b m area a r e f q = steps b m r area (refused b m a) e (ap (λ (x : Outcome). x .after) f) (ap (λ (x : Outcome). x .answer) f) (ap (λ (x : Outcome). x .len) f ∙ ap (λ (x : Back). x .len) (sym q)) (ap (λ (x : Back). x .area) (sym q))
+pub refuses : (b : DisplayBox) (m : Message) (area : List ℕ) (a : Answer) (r : Outcome) → step b m ≡ refused b m a → r ≡ resting b a → back m [] ≡ record { len = 0; area = area } → Steps b m r area
+refuses b m area a r e f q = steps b m r area (refused b m a) e (ap (λ (x : Outcome). x .after) f) (ap (λ (x : Outcome). x .answer) f) (ap (λ (x : Outcome). x .len) f ∙ ap (λ (x : Back). x .len) (sym q)) (ap (λ (x : Outcome). x .done) f) (ap (λ (x : Back). x .area) (sym q))
 
 -- a message with a link
 abbrev pub Lent : Message → Type 0
@@ -103,12 +105,12 @@ lent-back Kjw l m area reply = refl
 lent-back Tcp l m area reply = refl
 
 -- the panel's turn, stored at its place
-pub acted : (line : Line) (b : DisplayBox) (l : ℕ) (m area : List ℕ) (i : ℕ) (p : Panel) (t : Acted) (area′ : List ℕ) (r : Outcome) → step b (messageOf line l m area) ≡ stored b (messageOf line l m area) i → p ≡ panelAt i b → Acts (turn (messageOf line 0 m area) p) area t area′ → r .after ≡ withPanels b (set (b .panels) i (t .after)) → r .answer ≡ t .answer → r .len ≡ t .len → Steps b (messageOf line l m area) r area′
-acted line b l m area i p t area′ r e q a x y z =
+pub acted : (line : Line) (b : DisplayBox) (l : ℕ) (m area : List ℕ) (i : ℕ) (p : Panel) (t : Acted) (area′ : List ℕ) (r : Outcome) → step b (messageOf line l m area) ≡ stored b (messageOf line l m area) i → p ≡ panelAt i b → Acts (turn (messageOf line 0 m area) p) area t area′ → r .after ≡ withPanels b (set (b .panels) i (t .after)) → r .answer ≡ t .answer → r .len ≡ t .len → r .done ≡ eqb (numberOf (t .answer)) 0 → Steps b (messageOf line l m area) r area′
+acted line b l m area i p t area′ r e q a x y z d =
     let msg = messageOf line l m area in
     let u : turn (messageOf line 0 m area) p ≡ turn msg (panelAt i b) = ap (turn (messageOf line 0 m area)) q ∙ turn-same line l m area (panelAt i b) in
     let v = subst (λ (w : Turn Panel). Acts w area t area′) u a in
     let k = lent-back line l m area (turn msg (panelAt i b) .reply) in
     steps b msg r area′ (stored b msg i) e
     (x ∙ ap (λ (o : Panel). withPanels b (set (b .panels) i o)) (v .after-is)) (y ∙ v .answer-is)
-    (z ∙ v .sends .length-is ∙ ap (λ (o : Back). o .len) (sym k)) (v .sends .area-is ∙ ap (λ (o : Back). o .area) (sym k))
+    (z ∙ v .sends .length-is ∙ ap (λ (o : Back). o .len) (sym k)) (d ∙ ap (λ (o : Answer). eqb (numberOf o) 0) (v .answer-is)) (v .sends .area-is ∙ ap (λ (o : Back). o .area) (sym k))

@@ -2,6 +2,8 @@
 use Prim.Native.Nat.{ℕ}
 use mathlib.Core.Path.{_≡_}
 use mathlib.Core.List.{List}
+use lib.Dec.{eqb}
+use Rattle.terms.specs.Answers.{numberOf}
 use Rattle.terms.specs.declared.Answer.{Answer}
 use Rattle.panels.specs.declared.DisplayBox.{DisplayBox}
 use Rattle.steps.specs.Messages.{Message, rs232c, kjw, tcp, udp}
@@ -12,11 +14,12 @@ use Rattle.ways_in.specs.declared.Way.{Way}
 use Rattle.ways_in.specs.declared.Way.the-variants.{By, Udp}
 use Rattle.ways_in.specs.declared.Outcome.{Outcome}
 
--- the box after the message, the answer, the reply's length, and the area; by UDP the area is none
+-- the box after the message, the answer, the reply's length, whether the answer is 0, and the area; by UDP the area is none
 pub record Steps (b : DisplayBox) (m : Message) (r : Outcome) (area′ : List ℕ) : Type 0 where
   pub after-is : r .after ≡ step b m .box
   pub answer-is : r .answer ≡ step b m .answer
   pub length-is : r .len ≡ step b m .back .len
+  pub done-is : r .done ≡ eqb (numberOf (step b m .answer)) 0
   pub area-is : area′ ≡ step b m .back .area
 
 -- "RS-232C port of panel p, KJW link of panel p, SDCP by TCP on the link of panel p"
@@ -44,5 +47,6 @@ abbrev pub cameBy : Way → DisplayBox → ℕ → List ℕ → List ℕ → Cam
 cameBy (By line) b l m area = withArea (step b (messageOf line l m area))
 cameBy Udp b l m area = unanswered (step b (udp m)) area
 
+-- the answer says whether it was done
 abbrev pub outcomeOf : Came → Outcome
-outcomeOf c = record { after = c .box; answer = c .answer; len = c .len }
+outcomeOf c = record { after = c .box; answer = c .answer; len = c .len; done = eqb (numberOf (c .answer)) 0 }

@@ -5,7 +5,7 @@ use addresses::any_called;
 use addresses::door_of;
 use addresses::is_called;
 use addresses::to_nobody;
-use box_rules::Ids;
+use box_rules::called_by;
 use box_rules::judge;
 use panels::DisplayBox;
 use panels::Panel;
@@ -13,19 +13,22 @@ use sdcp::take_packet;
 use sdcp_asks::Heard;
 use sdcp_asks::hear;
 use terms::Answer;
+use terms::answer_number;
 use vmc::obey;
 use vmc_asks::Order;
 ghost use mathlib.Core.Path.{_≡_};
+ghost use mathlib.Core.Bool.{false};
 ghost use mathlib.Core.List.{[]};
 ghost use Prim.Native.Nat.{_<_, _≤_};
+ghost use lib.Dec.{eqb};
 ghost use lib.ListN.{set};
 ghost use Rattle.laws.specs.Runs.{firstEach};
+ghost use Rattle.terms.specs.Answers.{numberOf};
 ghost use Rattle.steps.specs.Messages as messages;
 ghost use Rattle.steps.specs.Step.{withW, withPanels, panelAt, turn};
 ghost use Rattle.vmc.specs.Orders.{carried};
-ghost use Rattle.box_rules.specs.Pairs.{idsOf};
 ghost use Rattle.ways_in.specs.Promise.{Steps, messageOf, outcomeOf, cameBy};
-ghost use Rattle.ways_in.specs.Turns.{Acts, heeded};
+ghost use Rattle.ways_in.specs.Turns.{Acts, resting, heeded};
 
 // The ways in: those that have a link and a reply area, and UDP.
 pub enum Way {
@@ -33,11 +36,12 @@ pub enum Way {
     Udp,
 }
 
-// What a message did: the box after it, the answer, and the reply's length.
+// What a message did: the box after it, the answer, the reply's length, and whether the answer is 0: a refusal has nothing to store.
 pub struct Outcome {
     pub after: DisplayBox,
     pub answer: Answer,
     pub len: usize,
+    pub done: bool,
 }
 
 // What a message did to its panel.
@@ -47,14 +51,24 @@ struct Acted {
     len: usize,
 }
 
-// A refusal leaves the box as it was, and there is no reply.
+// The answer is 0.
+fn is_done(a: Answer) -> bool
+    ensures { λ r. ⌜ r ≡ eqb (numberOf a) 0 ⌝ }
+{
+    answer_number(a) == 0
+}
+
+// A refusal leaves the box as it was, and there is no reply. That it is not done is written out: so a caller that stores what was
+// done has no copy to make here.
 fn refused(b: DisplayBox, answer: Answer) -> Outcome
-    ensures { λ r. ⌜ r ≡ record { after = b; answer = answer; len = 0 } ⌝ }
+    requires { ⌜ eqb (numberOf answer) 0 ≡ false ⌝ }
+    ensures { λ r. ⌜ r ≡ resting b answer ⌝ }
 {
     Outcome {
         after: b,
         answer,
         len: 0,
+        done: false,
     }
 }
 
@@ -159,21 +173,13 @@ fn take_linked(b: DisplayBox, line: Line, link: usize, m: &[u8], area: &mut [u8]
             let answer = t.answer;
             let len = t.len;
             let after = with_panel(b, i, q);
-            Outcome { after, answer, len }
+            Outcome {
+                after,
+                answer,
+                len,
+                done: is_done(answer),
+            }
         }
-    }
-}
-
-// What a panel is called by.
-fn called_by(p: Panel) -> Ids
-    ensures { λ r. ⌜ r ≡ idsOf p ⌝ }
-{
-    let group = p.group;
-    let unit = p.unit;
-    Ids {
-        family: p.family,
-        group,
-        unit,
     }
 }
 
@@ -228,6 +234,7 @@ fn take_udp(b: DisplayBox, m: &[u8]) -> Outcome
                 after: x,
                 answer: Answer::Done,
                 len: 0,
+                done: true,
             }
         }
     }

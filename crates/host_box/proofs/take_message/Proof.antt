@@ -21,7 +21,7 @@ unfolding called
 leads b n link m area e f p q = ap (λ (x : Entry). calledBy x b link m area) (sym p ∙ q)
 
 abbrev in-numbers : Held → Outcome
-in-numbers t = record { after = t .after; answer = numberOf (t .answer); len = t .len }
+in-numbers t = record { after = t .after; answer = numberOf (t .answer); len = t .len; done = t .done }
 
 through : (b : DisplayBox) (n link : ℕ) (m area : List ℕ) (e : Entry) (w : Way) (t : Held) (area′ : List ℕ) (r : Outcome) → e ≡ wayOf n → e ≡ Through w → (t ≡ outcomeOf (cameBy w b link m area)) × (area′ ≡ cameBy w b link m area .area) → r ≡ in-numbers t → (r ≡ numbersOf (called b n link m area)) × (area′ ≡ called b n link m area .area)
 through b n link m area e w t area′ r p q s k =

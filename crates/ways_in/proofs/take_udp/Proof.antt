@@ -3,15 +3,20 @@ use mathlib.Core.Path.{_≡_, refl, sym, ap, _∙_}
 use mathlib.Core.Bool.{Bool, true, false}
 use mathlib.Core.List.{List, [], map}
 use Prim.Native.Nat.{ℕ}
+use lib.Dec.{eqb}
 use borrow.Author.Tests.{not-true, not-false}
 use borrow.Author.Needs.{needs}
 use Rattle.panels.specs.declared.Panel.{Panel}
 use Rattle.panels.specs.declared.DisplayBox.{DisplayBox}
+use Rattle.terms.specs.Answers.{numberOf}
 use Rattle.terms.specs.declared.Answer.{Answer}
 use Rattle.steps.specs.Messages.{udp, names}
 use Rattle.steps.specs.Addressing.{anyCalled}
 use Rattle.steps.specs.Step.{withPanels, toNobody, nothing, step}
+use Rattle.steps.proofs.Door.{nobody-shut}
+use Rattle.sdcp_asks.proofs.Refusals.{refused-undone}
 use Rattle.ways_in.specs.Promise.{Steps}
+use Rattle.ways_in.specs.Turns.{resting}
 use Rattle.ways_in.specs.declared.Outcome.{Outcome}
 use Rattle.ways_in.proofs.Calls.{uncalled, idle, refusing, broken, strange, obeyed}
 use Rattle.ways_in.proofs.Doors.{valid-count, called-read, called-valid}
@@ -23,8 +28,8 @@ use Rattle.ways_in.proofs.take_udp.Statement.{statement}
 use Rattle.ways_in.proofs.take_udp.Tie as tie
 
 -- the box rests as it was, with an answer
-rests : (b : DisplayBox) (m : List ℕ) (a : Answer) (r : Outcome) → step b (udp m) ≡ record { box = b; answer = a; back = nothing } → r ≡ record { after = b; answer = a; len = 0 } → Steps b (udp m) r []
-rests b m a r e f = steps b (udp m) r [] (record { box = b; answer = a; back = nothing }) e (ap (λ (x : Outcome). x .after) f) (ap (λ (x : Outcome). x .answer) f) (ap (λ (x : Outcome). x .len) f) refl
+rests : (b : DisplayBox) (m : List ℕ) (a : Answer) (r : Outcome) → step b (udp m) ≡ record { box = b; answer = a; back = nothing } → r ≡ resting b a → Steps b (udp m) r []
+rests b m a r e f = steps b (udp m) r [] (record { box = b; answer = a; back = nothing }) e (ap (λ (x : Outcome). x .after) f) (ap (λ (x : Outcome). x .answer) f) (ap (λ (x : Outcome). x .len) f) (ap (λ (x : Outcome). x .done) f) refl
 
 -- somebody is called, read off the IDs
 some : (b : DisplayBox) (m : List ℕ) (j : Judged) (y : Bool) → j ≡ judged b → y ≡ anyCalled m (map idName (j .ids)) → y ≡ true → anyCalled m (names b) ≡ true
@@ -40,7 +45,9 @@ to-nobody-requires : tie.Need-to-nobody-requires
 to-nobody-requires c κs = search needs
 
 refused-requires : tie.Need-refused-requires
-refused-requires c κs = search needs
+refused-requires c κs =
+    let a = c .before .before .before .before .before .before .args in
+    ap (λ (x : Answer). eqb (numberOf x) 0) (c .to-nobody .ensures) ∙ nobody-shut (a .m .now)
 
 returns : tie.Need-returns
 returns c =
@@ -57,7 +64,9 @@ enum-known-answer : tie.Need-enum-known-answer
 enum-known-answer c = search needs
 
 refused-requires-2 : tie.Need-refused-requires-2
-refused-requires-2 c κs = search needs
+refused-requires-2 c κs =
+    let a = c .before .before .before .before .before .before .before .before .before .args in
+    refused-undone (a .m .now) _ (sym (c .before .before .before .hear .ensures) ∙ c .before .answer .given .1)
 
 enum-told : tie.Need-enum-told
 enum-told c = search needs
@@ -111,7 +120,7 @@ returns-5 c =
     let j = c .before .before .before .before .before .before .before .before .before .judge in
     let q = c .before .before .before .before .before .before .before .any-called in
     let n = some (a .b) (a .m .now) (j .result) (q .result) (j .ensures) (q .ensures) (not-false (q .result) (c .before .before .before .before .before .before .if1 .left)) in
-    steps (a .b) (udp (a .m .now)) _ [] _ (obeyed (a .b) (a .m .now) (c .before .before .before .o .given .0 .0) (called-valid (a .b) (a .m .now) n) n (sym (c .before .before .before .before .before .hear .ensures) ∙ c .before .before .before .o .given .1)) (ap (λ (ps : List Panel). withPanels (a .b) ps) (c .obey-all .ensures)) refl refl refl
+    steps (a .b) (udp (a .m .now)) _ [] _ (obeyed (a .b) (a .m .now) (c .before .before .before .o .given .0 .0) (called-valid (a .b) (a .m .now) n) n (sym (c .before .before .before .before .before .hear .ensures) ∙ c .before .before .before .o .given .1)) (ap (λ (ps : List Panel). withPanels (a .b) ps) (c .obey-all .ensures)) refl refl refl refl
 
 pub take-udp-spec : {M : Type 1} → statement M
 take-udp-spec =
