@@ -14,7 +14,10 @@ use Rattle.script_words.specs.Kinds.{isFamily, isKind, shaped}
 use Rattle.script_lines.specs.Orders.{asks, panelKinds, asksBox, orderIn, isPassedOver, orderOf}
 use Rattle.script_boxes.specs.Boxes.{panelsIn, configuration, configurationOf}
 use Rattle.script_text.specs.Texts.{numberText}
-use Rattle.script_orders.specs.Answers.{writes, boxed, isThere, shownAt, summed, ordered, answered}
+use Rattle.script_answers.specs.Answers.{writes}
+use Rattle.script_bytes.specs.Bytes.{summed}
+use Rattle.script_panels.specs.Panels.{boxed, isThere, shownAt}
+use Rattle.script.specs.Answers.{ordered, answered}
 
 passed : answered noBox (ascii "# a remark") ≡ record { box = noBox; text = [] }
 unfolding answered ordered orderOf isPassedOver

@@ -1,18 +1,19 @@
 // What a line of a script does to the box, and what it writes: the order that the line is, carried out (docs/SCRIPTS.md).
 use addresses::Line;
 use panels::DisplayBox;
+use script_answers::Answered;
+use script_answers::say;
+use script_bytes::answer_advert;
+use script_bytes::answer_sum;
+use script_bytes::answer_write;
 use script_lines::Order;
 use script_lines::order_of;
-use script_orders::Answered;
-use script_orders::answer_advert;
-use script_orders::answer_box;
-use script_orders::answer_message;
-use script_orders::answer_show;
-use script_orders::answer_sum;
-use script_orders::answer_udp;
-use script_orders::answer_write;
-use script_orders::say;
-ghost use Rattle.script_orders.specs.Answers.{Answers, answered};
+use script_messages::answer_message;
+use script_messages::answer_udp;
+use script_panels::answer_box;
+use script_panels::answer_show;
+ghost use Rattle.script_answers.specs.Answers.{Answers};
+ghost use Rattle.script.specs.Answers.{answered};
 
 // A line: what it does to the box, and its text at the front of an area.
 pub fn answer_line(b: DisplayBox, line: &[u8], out: &mut [u8]) -> Answered

@@ -70,7 +70,11 @@ use Rattle.script_parts.specs.Parts.{onText, inputsText, sceneText, inputText, 
 use Rattle.script_balance.specs.Balance.{gainsText, biasText, biasesText, balanceText}
 use Rattle.script_fields.specs.Fields.{headText, addressesText, tailText, advertText}
 use Rattle.script_write.specs.Wanted.{wanted}
-use Rattle.script_orders.specs.Answers.{writes, filler, answerText, boxed, replied, stepped, messaged, spread, isThere, shownAt, readText, filled, wrote, summed, ordered, answered}
+use Rattle.script_answers.specs.Answers.{writes, filler, answerText, replied}
+use Rattle.script_bytes.specs.Bytes.{readText, filled, wrote, summed}
+use Rattle.script_panels.specs.Panels.{boxed, isThere, shownAt}
+use Rattle.script_messages.specs.Messages.{stepped, messaged, spread}
+use Rattle.script.specs.Answers.{ordered, answered}
 use Rattle.addresses.specs.declared.Line.{Line}
 use Rattle.addresses.specs.declared.Line.the-variants as lines
 use Rattle.ways_in.specs.Promise.{messageOf}

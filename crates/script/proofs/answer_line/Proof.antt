@@ -1,11 +1,22 @@
 -- `answer_line` does what the order of the line does.
-use mathlib.Core.Path.{refl, sym, _∙_}
+use Prim.Native.Nat.{ℕ}
+use mathlib.Core.Path.{_≡_, refl, sym, subst, _∙_}
+use mathlib.Core.List.{List}
+use Rattle.panels.specs.declared.DisplayBox.{DisplayBox}
+use Rattle.script_lines.specs.Orders.{orderOf}
+use Rattle.script_lines.specs.declared.Order.{Order}
 use Rattle.script_text.proofs.Puts.{puts-none}
-use Rattle.script_orders.specs.Answers.{ordered}
-use Rattle.script_orders.proofs.Carried.{by-order}
+use Rattle.script_answers.specs.Answers.{Answers}
+use Rattle.script_answers.specs.declared.Answered.{Answered}
+use Rattle.script.specs.Answers.{ordered, answered}
 use borrow.Author.Needs.{needs}
 use Rattle.script.proofs.answer_line.Statement.{statement}
 use Rattle.script.proofs.answer_line.Tie as tie
+
+-- what the order of a line does is what the line does
+by-order : (b : DisplayBox) (line : List ℕ) {o : Order} {area area′ : List ℕ} {r : Answered} → orderOf line ≡ o → Answers (ordered o b line) r area area′ → Answers (answered b line) r area area′
+unfolding answered
+by-order b line {o} {area} {area′} {r} e h = subst (λ (x : Order). Answers (ordered x b line) r area area′) (sym e) h
 
 order-of-requires : tie.Need-order-of-requires
 order-of-requires c κs = search needs

@@ -1,0 +1,43 @@
+-- docs/SCRIPTS.md, "Orders": what a line leaves, the box after it and a text, and the promise of it.
+use Prim.Native.Nat.{ℕ}
+use mathlib.Core.Path.{_≡_}
+use mathlib.Core.List.{List, [], _∷_, _++_}
+use lib.ListN.{take, drop, replicate}
+use Rattle.laws.specs.Bytes.{ascii}
+use Rattle.terms.specs.Answers.{numberOf}
+use Rattle.terms.specs.declared.Answer.{Answer}
+use Rattle.panels.specs.declared.DisplayBox.{DisplayBox}
+use Rattle.script_text.specs.Puts.{Puts}
+use Rattle.script_text.specs.Texts.{numberText, replyText}
+use Rattle.script_answers.specs.declared.Answered.{Answered}
+
+-- the box after a line, and the text that the line writes
+pub record Effect : Type 0 where
+  pub box : DisplayBox
+  pub text : List ℕ
+
+-- a line of its own
+unfoldable pub writes : DisplayBox → List ℕ → Effect
+writes b text = record { box = b; text = text ++ (0x0a ∷ []) }
+
+-- "a reply area of AREA bytes (0 to 1,024), each A5h"
+abbrev pub filler : ℕ → List ℕ
+filler n = replicate n 0xa5
+
+-- "`answer A`"
+abbrev pub answerText : Answer → List ℕ
+answerText a = numberText (ascii "answer ") (numberOf a)
+
+-- "A message with a reply area writes `answer A reply HEX`"
+unfoldable pub replied : Answer → ℕ → List ℕ → List ℕ
+replied a len area = replyText (numberOf a) (take len area) (drop len area)
+
+-- the promise: the box after the line, and its text at the front of the area, cut off where the area ends
+pub record Answers (o : Effect) (r : Answered) (area area′ : List ℕ) : Type 0 where
+  pub box-is : r .after ≡ o .box
+  pub text-is : Puts (o .text) area 0 area′ (r .len)
+
+-- a text that was put up to a place ends there
+pub record Ends (b : DisplayBox) (at : ℕ) (r : Answered) (area area′ : List ℕ) : Type 0 where
+  pub box-is : r .after ≡ b
+  pub text-is : Puts (0x0a ∷ []) area at area′ (r .len)
