@@ -3,6 +3,8 @@ use terms::Answer;
 use terms::GroupId;
 use terms::UnitId;
 ghost use mathlib.Core.Path.{_≡_};
+ghost use mathlib.Core.Bool.{not, _&&_};
+ghost use lib.Dec.{eqb};
 ghost use Rattle.sdap.specs.Rules.{isText, areTexts, isCategory, isFilled, verdict, textLength, isSized, writeVerdict};
 
 // The fields of an advert, in the order of its bytes.
@@ -27,22 +29,30 @@ pub struct Read {
     pub fields: Advert,
 }
 
-// "A nonzero byte after a 00h in a text": whether there is none.
+// A nonzero byte directly behind a 00h.
+fn goes_on(last: u8, next: u8) -> bool
+    ensures { λ r. ⌜ r ≡ (eqb last 0 && not (eqb next 0)) ⌝ }
+{
+    if last != 0 {
+        return false;
+    }
+    next != 0
+}
+
+// "A nonzero byte after a 00h in a text": whether there is none. If there is one, then one stands directly behind a 00h. There is no way
+// out of the loop, so that the compiler need not wait for one byte to look at the next.
 fn is_text(t: &[u8]) -> bool
     ensures { λ r. ⌜ r ≡ isText (now (t .entry)) ⌝ }
 {
-    let mut i = 0;
-    let mut ended = false;
+    let mut ok = true;
+    let mut i = 1;
     while i < t.len() {
-        let b = t[i];
-        if b == 0 {
-            ended = true;
-        } else if ended {
-            return false;
+        if goes_on(t[i - 1], t[i]) {
+            ok = false;
         }
         i += 1;
     }
-    true
+    ok
 }
 
 // A monitor or a controller.
