@@ -39,3 +39,12 @@ walked() {
     for seed; do compared "seed $seed" "$seed" 5000; done
     echo "$total orders compared, every line the same"
 }
+
+# enough TEST: as many orders were compared as docs/PERFORMANCE.md says of that test, or more
+enough() {
+    local said
+    said=$(sed -nE "s;^\\| \`$1\` \\|.*\\| ([0-9,]+) \\|\$;\1;p" docs/PERFORMANCE.md | tr -d ,)
+    [ "$total" -ge "${said:-$((total + 1))}" ] && return
+    echo "$total orders were compared, and docs/PERFORMANCE.md says ${said:-no number} of $1"
+    return 1
+}
