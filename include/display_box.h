@@ -42,6 +42,9 @@
  * what malloc gives is. Any bits are a box. One that breaks the rules is answered
  * as a box of no panels, and comes back bit for bit as it was.
  *
+ * Stack. A call needs at most BOX_STACK_LENGTH bytes of it, whatever is handed
+ * in and however long it is.
+ *
  * Answers (document 01, "Answer numbers"): enum box_answer. Checks run in the
  * order of the numbers, and the first that applies is given.
  */
@@ -61,15 +64,15 @@ extern "C" {
 enum box_answer {
     BOX_DONE = 0,              /* carried out */
     BOX_AREA_TOO_SMALL = 1,    /* the reply area is under 512 bytes; box_advert_write: the area is under 122 */
-    BOX_NO_SUCH_PANEL = 2,     /* no panel with that link number, or it is of the other family; no such way in */
+    BOX_NO_SUCH_PANEL = 2,     /* no panel with that link number, or it is of the other family; no such way in, whatever the area */
     BOX_WRONG_LENGTH = 3,      /* too short to be a message, or a wrong fixed length */
     BOX_NOT_FOR_US = 4,        /* not for us: wrong fixed bytes, or nobody is addressed */
-    BOX_ENVELOPE_WRONG = 5,    /* the envelope is wrong: a length, a checksum */
+    BOX_ENVELOPE_WRONG = 5,    /* RS-232C: byte count or checksum; SDCP: request, item or data length; advert: power, error or a text */
     BOX_NOT_UNDERSTOOD = 6,    /* the contents are not understood */
     BOX_BAD_CONFIGURATION = 7, /* box_configure alone: the configuration breaks a rule */
 };
 
-/* The ways in. Any other number is no way in, and is answered BOX_NO_SUCH_PANEL. */
+/* The ways in. Any other number is no way in, and is answered BOX_NO_SUCH_PANEL, also where the area is too small for a reply. */
 enum box_way {
     BOX_WAY_RS232C = 1, /* the RS-232C port of the link's panel, which is of family W */
     BOX_WAY_KJW = 2,    /* the KJW link of the link's panel, which is of family K */
@@ -80,7 +83,19 @@ enum box_way {
 /* The reply area of box_take: at least so many bytes. No reply is longer. */
 #define BOX_AREA_LENGTH 512
 
+/*
+ * The stack that a call needs at most, with its arguments and with glibc's memcpy
+ * and memset; measured on the archive (tests/c/stack.c) and rounded up.
+ */
+#define BOX_STACK_LENGTH 4096
+
 /* ---- the records, as they lie in memory: no padding anywhere */
+
+/*
+ * Grows when the records change. A host that saves a box writes this number in
+ * front of it, and loads only what has the number that it was compiled with.
+ */
+#define BOX_LAYOUT 1
 
 #define BOX_PANELS 8
 
@@ -190,6 +205,19 @@ struct box_outcome {
     uint8_t answer;
     size_t length;
 };
+
+/* What crosses a call is as long here as in the archive; elsewhere (32 bits, packed structs) this does not compile. */
+#if defined(__cplusplus) && __cplusplus >= 201103L
+#define BOX_LENGTH_IS(record, length) static_assert(sizeof(struct record) == (length), #record)
+#elif defined(__STDC_VERSION__) && __STDC_VERSION__ >= 201112L
+#define BOX_LENGTH_IS(record, length) _Static_assert(sizeof(struct record) == (length), #record)
+#else
+#define BOX_LENGTH_IS(record, length) typedef char box_length_of_##record[sizeof(struct record) == (length) ? 1 : -1]
+#endif
+BOX_LENGTH_IS(box_panel, 60);
+BOX_LENGTH_IS(display_box, 488);
+BOX_LENGTH_IS(box_outcome, 16);
+#undef BOX_LENGTH_IS
 
 /*
  * A new box: three bytes a panel, its family, its group and its unit. Gives

@@ -16,6 +16,8 @@
 #include <sys/mman.h>
 #include <unistd.h>
 
+#define LENGTH_OF(list) (sizeof (list) / sizeof (list)[0])
+
 /* ---- questions */
 
 static unsigned long asked, wrong;

@@ -8,7 +8,6 @@
 #include "areas.h"
 #include "messages.h"
 
-#define LENGTH_OF(list) (sizeof (list) / sizeof (list)[0])
 #define LONGEST 65535
 
 static struct place box_place, other_place, message_place, area_place, panel_place;

@@ -13,6 +13,7 @@
 #define AT(record, field, sum) _Static_assert(offsetof(struct record, field) == (sum), #record "." #field)
 #define SIZE(record, sum) _Static_assert(sizeof(struct record) == (sum), #record)
 
+_Static_assert(BOX_LAYOUT == 1, "the number of these sizes and offsets: another sum, another number");
 _Static_assert(BOX_PANELS == 8 && BOX_CONNECTORS == 10, "panels and connectors");
 _Static_assert(BOX_SETTINGS == 3 + 3 + 15 && BOX_SHIFTS == 2, "levels, choices and switches; shifts");
 _Static_assert(BOX_FAMILY_W == 'W' && BOX_FAMILY_K == 'K', "families");
