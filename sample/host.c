@@ -6,7 +6,7 @@
  * device carries RS-232C frames, or of family K with KJW frames (document 01).
  * sample/README.md says how to build and run it, and what it leaves out.
  */
-#define _POSIX_C_SOURCE 200809L
+#define _DEFAULT_SOURCE /* POSIX, and CRTSCTS beside it */
 
 #include "display_box.h"
 
@@ -19,6 +19,7 @@
 #include <stdlib.h>
 #include <string.h>
 #include <termios.h>
+#include <time.h>
 #include <unistd.h>
 
 /* A byte count of one byte, and the three bytes that it does not count. */
@@ -27,12 +28,16 @@
 /* A console that takes nothing for so long is left, so that the other panels do not wait for it. */
 #define PATIENCE_MS 1000
 
+/* A device that was left is opened again after so long, and after so long again where that fails. */
+#define PAUSE_MS 1000
+
 /* A panel's device, and the frame that is being put together from its bytes. */
 struct port {
     size_t link; /* the panel's number, from 1 */
     uint8_t family;
-    const char *device;
-    int fd; /* -1 where there is no device, or none any more */
+    const char *device; /* "-" is none */
+    int fd; /* -1 where there is no device, or where it was left */
+    int64_t again; /* when a device that was left is opened again, by now_ms() */
     uint8_t frame[LONGEST_FRAME];
     size_t held;
 };
@@ -107,10 +112,37 @@ static bool read_argument(const char *argument, struct port *port, uint8_t *scre
 
 /* ---- the devices */
 
+static int64_t now_ms(void)
+{
+    struct timespec now;
+    clock_gettime(CLOCK_MONOTONIC, &now);
+    return (int64_t)now.tv_sec * 1000 + now.tv_nsec / 1000000;
+}
+
+/* tcsetattr is content where the line took anything at all, so it is read back: a line in the log for each part that it did not take. */
+static bool report_line(const struct port *port, const struct termios *asked)
+{
+    static const struct { const char *name; tcflag_t bits; } parts[] = {
+        { "data bits", CSIZE }, { "parity", PARENB | PARODD }, { "stop bits", CSTOPB }, { "flow control", CRTSCTS }, { "receiver", CREAD | CLOCAL },
+    };
+    struct termios got;
+    if (tcgetattr(port->fd, &got) != 0)
+        return false;
+    for (size_t i = 0; i < sizeof parts / sizeof parts[0]; i++)
+        if (((got.c_cflag ^ asked->c_cflag) & parts[i].bits) != 0)
+            log_line(port, "%s did not take the %s", port->device, parts[i].name);
+    if (cfgetispeed(&got) != cfgetispeed(asked) || cfgetospeed(&got) != cfgetospeed(asked))
+        log_line(port, "%s did not take the speed", port->device);
+    if (got.c_iflag != asked->c_iflag || got.c_oflag != asked->c_oflag || got.c_lflag != asked->c_lflag)
+        log_line(port, "%s did not take raw bytes", port->device);
+    return true;
+}
+
 /*
- * Raw, and for RS-232C "38400 bit/sec", "8 bits", "Parity: Even", "Stop bit: 1 bit" (documents 002 and 004,
- * "Communication Format"). A byte of wrong parity comes in as 00h, and the checksum tells the box. Of KJW
- * document 003 knows no serial line, so speed and parity stay as they are set. What came in before is dropped.
+ * Raw, without flow control, and for RS-232C "38400 bit/sec", "8 bits", "Parity: Even", "Stop bit: 1 bit" (documents
+ * 002 and 004, "Communication Format", which names no flow control). A byte of wrong parity comes in as 00h, and the
+ * checksum tells the box. Of KJW document 003 knows no serial line, so speed and parity stay as they are set. What
+ * came in before is dropped.
  */
 static bool set_line(const struct port *port)
 {
@@ -121,6 +153,7 @@ static bool set_line(const struct port *port)
     line.c_oflag = 0;
     line.c_lflag = 0;
     line.c_cflag |= CREAD | CLOCAL;
+    line.c_cflag &= ~(tcflag_t)CRTSCTS;
     line.c_cc[VMIN] = 1;
     line.c_cc[VTIME] = 0;
     if (port->family == BOX_FAMILY_W) {
@@ -130,21 +163,31 @@ static bool set_line(const struct port *port)
         if (cfsetispeed(&line, B38400) != 0 || cfsetospeed(&line, B38400) != 0)
             return false;
     }
-    return tcsetattr(port->fd, TCSAFLUSH, &line) == 0;
+    return tcsetattr(port->fd, TCSAFLUSH, &line) == 0 && report_line(port, &line);
+}
+
+/* Closes the device, which is opened again after a pause. What it has not sent is dropped: closing would wait for it. */
+static void close_device(struct port *port)
+{
+    tcflush(port->fd, TCOFLUSH);
+    close(port->fd);
+    port->fd = -1;
+    port->again = now_ms() + PAUSE_MS;
 }
 
 /* A device that is no terminal is refused by tcgetattr: from a FIFO the host would read its own replies. */
 static bool open_device(struct port *port)
 {
-    if (strcmp(port->device, "-") == 0) {
-        log_line(port, "no device");
-        return true;
-    }
     port->fd = open(port->device, O_RDWR | O_NOCTTY | O_NONBLOCK);
-    if (port->fd < 0 || !set_line(port)) {
-        log_line(port, "%s: %s", port->device, errno == ENOTTY ? "not a terminal" : strerror(errno));
+    if (port->fd < 0)
+        return false;
+    if (!set_line(port)) {
+        int why = errno;
+        close_device(port);
+        errno = why;
         return false;
     }
+    port->held = 0;
     log_line(port, "listening on %s", port->device);
     return true;
 }
@@ -152,8 +195,43 @@ static bool open_device(struct port *port)
 static void leave_device(struct port *port, const char *why)
 {
     log_line(port, "%s", why);
-    close(port->fd);
-    port->fd = -1;
+    close_device(port);
+}
+
+static bool has_device(const struct port *port)
+{
+    return strcmp(port->device, "-") != 0;
+}
+
+/* At the start every device has to be there. */
+static bool start_device(struct port *port)
+{
+    if (!has_device(port))
+        log_line(port, "no device");
+    else if (!open_device(port)) {
+        log_line(port, "%s: %s", port->device, errno == ENOTTY ? "not a terminal" : strerror(errno));
+        return false;
+    }
+    return true;
+}
+
+/* Opens again what was left, where its time has come. Gives how long the next one has to wait, or -1 where none has. */
+static int open_again(struct port *ports, size_t count)
+{
+    int64_t least = -1, now = now_ms();
+    for (size_t i = 0; i < count; i++) {
+        struct port *port = &ports[i];
+        if (!has_device(port) || port->fd >= 0)
+            continue;
+        if (port->again <= now) {
+            port->again = now + PAUSE_MS;
+            if (open_device(port))
+                continue;
+        }
+        if (least < 0 || port->again - now < least)
+            least = port->again - now;
+    }
+    return (int)least;
 }
 
 /* ---- from bytes to frames */
@@ -258,21 +336,15 @@ static int watch_signals(void)
     return ends[0];
 }
 
-/* Waits for all devices at once, until none is left or a signal comes. */
+/* Waits for all devices at once, until a signal comes. */
 static int serve(struct display_box *box, struct port *ports, size_t count, int signals)
 {
     for (;;) {
         struct pollfd watched[1 + BOX_PANELS] = { { .fd = signals, .events = POLLIN } };
-        bool left = false;
-        for (size_t i = 0; i < count; i++) {
+        int wait = open_again(ports, count);
+        for (size_t i = 0; i < count; i++)
             watched[1 + i] = (struct pollfd){ .fd = ports[i].fd, .events = POLLIN };
-            left = left || ports[i].fd >= 0;
-        }
-        if (!left) {
-            fputs("no device is left\n", stderr);
-            return 0;
-        }
-        if (poll(watched, 1 + count, -1) < 0) {
+        if (poll(watched, 1 + count, wait) < 0) {
             if (errno == EINTR)
                 continue;
             perror("poll");
@@ -302,9 +374,16 @@ static int run(struct port *ports, const uint8_t *screens, size_t count)
         perror("signals");
         return 1;
     }
-    for (size_t i = 0; i < count; i++)
-        if (!open_device(&ports[i]))
+    bool has_any = false;
+    for (size_t i = 0; i < count; i++) {
+        if (!start_device(&ports[i]))
             return 1;
+        has_any = has_any || has_device(&ports[i]);
+    }
+    if (!has_any) {
+        fputs("no panel has a device\n", stderr);
+        return 0;
+    }
     return serve(&box, ports, count, signals);
 }
 

@@ -1,11 +1,13 @@
 /*
  * Drives the sample host as consoles would, over pseudo-terminals; its arguments
  * are the command that starts the host. It sends frames whole, in pieces and with
- * noise, and looks at every byte that comes back and at every line of the log.
+ * noise, hangs up and comes back, and looks at every byte that comes back and at
+ * every line of the log.
  * What is expected is written out from document 01, and not taken from the host.
  * Every wait has an end, so that a host that hangs is a failure.
  */
 #define _XOPEN_SOURCE 700
+#define _DEFAULT_SOURCE
 
 #include <fcntl.h>
 #include <poll.h>
@@ -14,6 +16,7 @@
 #include <stdio.h>
 #include <stdlib.h>
 #include <string.h>
+#include <sys/resource.h>
 #include <sys/wait.h>
 #include <termios.h>
 #include <time.h>
@@ -21,6 +24,9 @@
 
 /* Long enough for an emulated host on a busy machine. */
 #define PATIENCE_MS 10000
+
+/* Longer than the host's pause, so that it tries in vain. */
+#define AWAY_MS 2500
 
 #define MOST_PANELS 8
 #define LONGEST_LINE 200
@@ -160,29 +166,48 @@ static void exchange(int console, const uint8_t *frame, size_t frame_length,
 
 /* ---- the host's start and end */
 
+/* The name that the host knows a panel's device by. It stays when another pseudo-terminal takes its place. */
+static const char *device_name(size_t panel)
+{
+    static char names[MOST_PANELS][sizeof "target/c/console-1"];
+    snprintf(names[panel], sizeof names[panel], "target/c/console-%u", (unsigned)(panel + 1) % 10);
+    return names[panel];
+}
+
+/* Whether a pseudo-terminal keeps a parity that it is set to: those of Linux do not. */
+static int keeps_parity;
+
 /*
- * A console's end of a new pseudo-terminal, set to a speed that no manual names,
- * so that it can be seen which one the host sets. The host must not hold this end,
- * or it would never see it hang up.
+ * A console's end of a new pseudo-terminal, with flow control and a speed that no
+ * manual names, so that it can be seen what the host sets. The host must not hold
+ * this end, or it would never see it hang up.
  */
-static int open_console(void)
+static int open_console(size_t panel)
 {
     struct termios line;
     int console = posix_openpt(O_RDWR | O_NOCTTY);
     if (console < 0 || grantpt(console) != 0 || unlockpt(console) != 0 || fcntl(console, F_SETFD, FD_CLOEXEC) != 0)
         give_up("no pseudo-terminal");
-    if (tcgetattr(console, &line) != 0 || cfsetospeed(&line, B1200) != 0 || tcsetattr(console, TCSANOW, &line) != 0)
+    if (tcgetattr(console, &line) != 0 || cfsetospeed(&line, B1200) != 0)
         give_up("no speed");
+    line.c_cflag |= CRTSCTS | PARENB;
+    if (tcsetattr(console, TCSANOW, &line) != 0 || tcgetattr(console, &line) != 0)
+        give_up("no settings");
+    keeps_parity = (line.c_cflag & PARENB) != 0;
+    unlink(device_name(panel));
+    if (symlink(ptsname(console), device_name(panel)) != 0)
+        give_up("no name for a pseudo-terminal");
     return console;
 }
 
-/* "38400 bit/sec" for RS-232C (documents 002 and 004); of KJW no manual names a speed. A pseudo-terminal has no parity to look at. */
-static void expect_speed(int console, char family)
+/* "38400 bit/sec" for RS-232C (documents 002 and 004); of KJW no manual names a speed. Neither has flow control. */
+static void expect_settings(int console, char family)
 {
     struct termios line;
     speed_t expected = family == 'W' ? B38400 : B1200;
     int known = tcgetattr(console, &line) == 0;
     expect(known && cfgetospeed(&line) == expected, "speed", family == 'W' ? "38400" : "1200 as before", "another");
+    expect(known && (line.c_cflag & CRTSCTS) == 0, "flow control", "none", "RTS and CTS");
 }
 
 /* Runs the words with standard error into host_log, in a process group of their own: a signal reaches all that they start. */
@@ -207,6 +232,21 @@ static void start(char **words)
     host_log = ends[0];
 }
 
+/* The host's lines when it opens a panel's device; a console of -1 is none. */
+static void expect_listening(size_t panel, char family, int console)
+{
+    char line[LONGEST_LINE];
+    const char *way = family == 'W' ? "RS-232C" : "KJW", *name = device_name(panel);
+    if (family == 'W' && console >= 0 && !keeps_parity) {
+        snprintf(line, sizeof line, "panel %zu: %s: %s did not take the parity", panel + 1, way, name);
+        expect_line(line);
+    }
+    snprintf(line, sizeof line, "panel %zu: %s: %s%s", panel + 1, way, console < 0 ? "no device" : "listening on ", console < 0 ? "" : name);
+    expect_line(line);
+    if (console >= 0)
+        expect_settings(console, family);
+}
+
 /*
  * Starts the host on panels of which all but the device is given, as "W,1,1," or
  * "K,"; one that ends with "-" has none. Gives each panel's console, and waits
@@ -214,8 +254,8 @@ static void start(char **words)
  */
 static void start_host(char **command, const char *const *panels, size_t count, int *consoles)
 {
-    static char arguments[MOST_PANELS][LONGEST_LINE / 2];
-    char lines[MOST_PANELS][LONGEST_LINE], *words[64];
+    static char arguments[MOST_PANELS][LONGEST_LINE];
+    char *words[64];
     size_t used = 0;
     while (command[used] != NULL && used < 64 - MOST_PANELS - 1) {
         words[used] = command[used];
@@ -223,25 +263,29 @@ static void start_host(char **command, const char *const *panels, size_t count, 
     }
     for (size_t i = 0; i < count; i++) {
         int has_device = panels[i][strlen(panels[i]) - 1] != '-';
-        const char *way = panels[i][0] == 'W' ? "RS-232C" : "KJW";
-        consoles[i] = has_device ? open_console() : -1;
-        const char *name = has_device ? ptsname(consoles[i]) : "";
-        snprintf(arguments[i], sizeof arguments[i], "%s%s", panels[i], name);
-        snprintf(lines[i], sizeof lines[i], "panel %zu: %s: %s%s", i + 1, way, has_device ? "listening on " : "no device", name);
+        consoles[i] = has_device ? open_console(i) : -1;
+        snprintf(arguments[i], sizeof arguments[i], "%s%s", panels[i], has_device ? device_name(i) : "");
         words[used++] = arguments[i];
     }
     words[used] = NULL;
     start(words);
-    for (size_t i = 0; i < count; i++) {
-        expect_line(lines[i]);
-        if (consoles[i] >= 0)
-            expect_speed(consoles[i], panels[i][0]);
-    }
+    for (size_t i = 0; i < count; i++)
+        expect_listening(i, panels[i][0], consoles[i]);
 }
 
-/* The log ends, and the host with 0. */
-static void expect_end(void)
+/* Milliseconds of the processor that the hosts took which have ended. */
+static long spent_ms(void)
 {
+    struct rusage used;
+    if (getrusage(RUSAGE_CHILDREN, &used) != 0)
+        give_up("no times");
+    return 1000 * (long)(used.ru_utime.tv_sec + used.ru_stime.tv_sec) + (long)(used.ru_utime.tv_usec + used.ru_stime.tv_usec) / 1000;
+}
+
+/* The log ends, and the host with 0. Gives the milliseconds of the processor that the host took. */
+static long expect_end(void)
+{
+    long before = spent_ms();
     char line[LONGEST_LINE];
     int status = 0;
     size_t more = read_some(host_log, line, sizeof line - 1, "the log did not end");
@@ -257,6 +301,14 @@ static void expect_end(void)
     char text[20];
     snprintf(text, sizeof text, "%d", WIFEXITED(status) ? WEXITSTATUS(status) : -1);
     expect(strcmp(text, "0") == 0, "exit status", "0", text);
+    return spent_ms() - before;
+}
+
+static long end_by(int number)
+{
+    kill(-host, number);
+    expect_line("ended by a signal");
+    return expect_end();
 }
 
 /* ---- what is sent */
@@ -371,14 +423,28 @@ static void at_once(const int *consoles)
 
 /* ---- the runs of the host */
 
-static void hang_up(int console, const char *line)
+/* The name goes with the pseudo-terminal, whose number the next one may get. */
+static void hang_up(size_t panel, int console, const char *line)
 {
+    unlink(device_name(panel));
     close(console);
     expect_line(line);
 }
 
-/* Two W panels, a K panel and a panel without a device; then one console after the other hangs up, one inside a frame. */
-static void run_to_the_last_console(char **command)
+/* Another pseudo-terminal in a panel's place, to which the host listens once its pause is over. */
+static int come_back(size_t panel, char family)
+{
+    int console = open_console(panel);
+    expect_listening(panel, family, console);
+    return console;
+}
+
+/*
+ * Two W panels, a K panel and a panel without a device. One console after the
+ * other hangs up, one inside a frame, and the others go on; two come back, and
+ * what was set stands.
+ */
+static void run_with_hang_ups(char **command)
 {
     static const char *const panels[] = { "W,1,1,", "W,1,2,", "K,", "W,2,1,-" };
     int consoles[4];
@@ -391,34 +457,73 @@ static void run_to_the_last_console(char **command)
     for (size_t i = 0; i < 3; i++)
         expect_quiet(consoles[i]);
     send_bytes(consoles[1], BYTES(0x02, 0x03, 0x01));
-    hang_up(consoles[1], "panel 2: RS-232C: hung up");
+    pause_ms(200);
+    hang_up(1, consoles[1], "panel 2: RS-232C: hung up");
     exchange(consoles[0], BYTES(REMOTE), BYTES(REMOTE_REPLY), "panel 1: RS-232C: carried out, 7 bytes back");
-    hang_up(consoles[0], "panel 1: RS-232C: hung up");
+    hang_up(0, consoles[0], "panel 1: RS-232C: hung up");
     exchange(consoles[2], TEXT(POWER_ASKED), TEXT(POWER_IS_ON), "panel 3: KJW: carried out, 24 bytes back");
-    hang_up(consoles[2], "panel 3: KJW: hung up");
-    expect_line("no device is left");
-    expect_end();
+    consoles[1] = come_back(1, 'W');
+    exchange(consoles[1], BYTES(REMOTE), BYTES(REMOTE_REPLY), "panel 2: RS-232C: carried out, 7 bytes back");
+    hang_up(2, consoles[2], "panel 3: KJW: hung up");
+    consoles[0] = come_back(0, 'W');
+    exchange(consoles[0], BYTES(GAINS), BYTES(GAINS_SET), "panel 1: RS-232C: carried out, 13 bytes back");
+    end_by(SIGTERM);
+    close(consoles[0]);
+    close(consoles[1]);
 }
 
-static void run_to_a_signal(char **command, int number)
+/* Gives the milliseconds of the processor that the host took. */
+static long run_to_a_signal(char **command, int number)
 {
     static const char *const panels[] = { "K,", "W,99,99," };
     int consoles[2];
     start_host(command, panels, 2, consoles);
     exchange(consoles[1], BYTES(REMOTE), BYTES(REMOTE_REPLY), "panel 2: RS-232C: carried out, 7 bytes back");
     send_bytes(consoles[0], TEXT("*SCPOWR"));
-    kill(-host, number);
-    expect_line("ended by a signal");
-    expect_end();
+    long spent = end_by(number);
     close(consoles[0]);
     close(consoles[1]);
+    return spent;
 }
 
-/* A console that never reads: once its line is full it is left, and the other panel goes on. */
+/* A device that stays away is waited for: the host sleeps, and takes little more of the processor than without the wait. */
+static void run_while_a_device_is_away(char **command, long spent_else)
+{
+    static const char *const panels[] = { "W,1,1," };
+    int console;
+    char text[20];
+    start_host(command, panels, 1, &console);
+    hang_up(0, console, "panel 1: RS-232C: hung up");
+    pause_ms(AWAY_MS);
+    console = come_back(0, 'W');
+    exchange(console, BYTES(REMOTE), BYTES(REMOTE_REPLY), "panel 1: RS-232C: carried out, 7 bytes back");
+    long more = end_by(SIGTERM) - spent_else;
+    snprintf(text, sizeof text, "%ld", more);
+    expect(more < AWAY_MS / 10, "milliseconds of the processor for the wait", "few", text);
+    close(console);
+}
+
+/* Reads what a console has not read yet. */
+static void catch_up(int console)
+{
+    uint8_t bytes[4096];
+    struct pollfd waited = { .fd = console, .events = POLLIN };
+    while (poll(&waited, 1, 200) > 0)
+        read_some(console, bytes, sizeof bytes, "what was not read");
+}
+
+/*
+ * A console that does not read: once its line is full it is left, and the other
+ * panel goes on. Its device is opened again, and when it reads it is served.
+ */
 static void run_with_a_console_that_does_not_read(char **command)
 {
     static const char *const panels[] = { "K,", "W,1,1," };
     static const char taken[] = "panel 1: KJW: carried out, 48 bytes back";
+    static const char *const lines[] = {
+        "panel 1: KJW: listening on target/c/console-1",
+        "panel 2: RS-232C: carried out, 7 bytes back",
+    };
     int consoles[2], rounds = 0;
     char line[LONGEST_LINE];
     start_host(command, panels, 2, consoles);
@@ -428,11 +533,15 @@ static void run_with_a_console_that_does_not_read(char **command)
     } while (strcmp(line, taken) == 0 && ++rounds < 5000);
     expect(strcmp(line, "panel 1: KJW: carried out, 48 bytes not taken") == 0, "a full line", "bytes not taken", line);
     expect_line("panel 1: KJW: left, for it does not take its replies");
-    exchange(consoles[1], BYTES(REMOTE), BYTES(REMOTE_REPLY), "panel 2: RS-232C: carried out, 7 bytes back");
-    hang_up(consoles[1], "panel 2: RS-232C: hung up");
-    expect_line("no device is left");
-    expect_end();
+    send_bytes(consoles[1], BYTES(REMOTE));
+    expect_reply(consoles[1], BYTES(REMOTE_REPLY));
+    expect_lines(lines, 2);
+    catch_up(consoles[0]);
+    exchange(consoles[0], TEXT("*SEVOLU################\n"), TEXT("*SAVOLU0000000000000000\n"),
+             "panel 1: KJW: carried out, 24 bytes back");
+    end_by(SIGTERM);
     close(consoles[0]);
+    close(consoles[1]);
 }
 
 int main(int argc, char **argv)
@@ -441,9 +550,9 @@ int main(int argc, char **argv)
         fputs("usage: terminals COMMAND..\n", stderr);
         return 2;
     }
-    run_to_the_last_console(argv + 1);
+    run_with_hang_ups(argv + 1);
     run_to_a_signal(argv + 1, SIGINT);
-    run_to_a_signal(argv + 1, SIGTERM);
+    run_while_a_device_is_away(argv + 1, run_to_a_signal(argv + 1, SIGTERM));
     run_with_a_console_that_does_not_read(argv + 1);
     printf("%lu replies, lines and ends checked, %lu wrong\n", asked, wrong);
     return wrong == 0 ? 0 : 1;
