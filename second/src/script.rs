@@ -1,6 +1,6 @@
 //! The script language of `replay`: one order a line in, what the box did out.
 //!
-//! Only the orders of document 01 are known here; an order of a change request is `unread`.
+//! What a line means and writes is in docs/SCRIPTS.md, which is quoted here.
 
 use std::io::{self, BufRead, Write};
 
@@ -15,7 +15,7 @@ use crate::vmc;
 /// "A line holds at most 4,096 bytes before its end."
 const LONGEST_LINE: usize = 4096;
 
-/// "At most 1,024 bytes", of a HEX word and of a reply area.
+/// "at most 1,024 bytes", of a HEX word; of an area "(0 to 1,024)".
 const MOST_BYTES: usize = 1024;
 
 /// "0 to 16 panels may be written".
@@ -69,7 +69,7 @@ pub struct Replay {
 }
 
 impl Replay {
-    /// "The script starts with a box of no panels".
+    /// "A script starts with a box of no panels."
     pub fn new() -> Replay {
         Replay::default()
     }
@@ -139,7 +139,7 @@ impl Replay {
     }
 }
 
-/// "A message with a reply area is answered `answer A reply HEX`".
+/// "A message with a reply area writes `answer A reply HEX`".
 fn reply_text(answer: Answer, area: &[u8], written: usize) -> String {
     let (reply, behind) = area.split_at(written);
     let spoiled = if behind.iter().all(|byte| *byte == FILL) {
@@ -150,7 +150,7 @@ fn reply_text(answer: Answer, area: &[u8], written: usize) -> String {
     format!("answer {} reply {}{}", answer.number(), hex(reply), spoiled)
 }
 
-/// Capitals; "No bytes are written `-`."
+/// "Output is in capitals."; "(`-` for none)".
 fn hex(bytes: &[u8]) -> String {
     if bytes.is_empty() {
         return "-".to_string();
@@ -288,8 +288,8 @@ fn read_order(line: &[u8]) -> Option<Order> {
     if line.len() > LONGEST_LINE {
         return None;
     }
-    // "Words are parted by one space. No space before the first or after the last word." A space
-    // too many makes an empty word, which no place of an order takes.
+    // "Words are parted by one space; no space stands before the first or after the last word." A
+    // space too many makes an empty word, which no place of an order takes.
     let words: Vec<&[u8]> = line.split(|byte| *byte == b' ').collect();
     match words.as_slice() {
         [b"box", panels @ ..] => read_box(panels),
@@ -318,8 +318,8 @@ fn read_order(line: &[u8]) -> Option<Order> {
 }
 
 /// The words behind `write`: "AREA CATEGORY PRODUCT SERIAL POWER LOCATION IP IP1 IP2 IP3 IP4 ERROR
-/// REGION NAME GROUP UNIT ... the four texts are HEX, the rest N; CATEGORY, GROUP, UNIT at most
-/// 255, POWER and ERROR at most 65535".
+/// REGION NAME GROUP UNIT ... the four texts are HEX, the rest N (CATEGORY, GROUP, UNIT to 255,
+/// POWER, ERROR to 65535)".
 fn read_write(words: &[&[u8]]) -> Option<Order> {
     if words.len() != 16 {
         return None;
@@ -346,8 +346,7 @@ fn read_write(words: &[&[u8]]) -> Option<Order> {
     })))
 }
 
-/// The panels behind `box`: "for each panel its family, W or K, its group and its unit, each 0 to
-/// 255".
+/// The panels behind `box`: "for each panel its family (W or K), group and unit (0 to 255)".
 fn read_box(words: &[&[u8]]) -> Option<Order> {
     if !words.len().is_multiple_of(3) || words.len() > 3 * MOST_PANELS_WRITTEN {
         return None;
