@@ -211,7 +211,7 @@ group-panel g p = go (eqb (p .family) familyW) (eqb (p .family) familyK)
     go false true = refl
     go false false = refl
 
-w-panel : (p : Panel) → isW (nameOf p) ≡ eqb (p .family) familyW
+pub w-panel : (p : Panel) → isW (nameOf p) ≡ eqb (p .family) familyW
 unfolding nameOf
 w-panel p = go (eqb (p .family) familyW) (eqb (p .family) familyK)
   where
@@ -221,18 +221,18 @@ w-panel p = go (eqb (p .family) familyW) (eqb (p .family) familyK)
     go false false = refl
 
 -- of each panel in use of a valid box
-module _ (b : DisplayBox) (i : ℕ) (v : valid b ≡ true) (k : i < b .count) (h : i < length (b .panels)) where
+module _ (b : DisplayBox) (i : ℕ) (v : valid b ≡ true) (k : i < b .count) where
   -- by TCP with 1..99/1..99: a W panel whose group is the packet's group and whose unit is its unit
   pub pair-in-box : (l : ℕ) (m area : List ℕ) → hasIds m ≡ true → 1 ≤ groupOf m → groupOf m ≤ 99 → 1 ≤ unitOf m → unitOf m ≤ 99 → addressed (names b) (tcp l m area) i ≡ (eqb (panelAt i b .family) familyW && (eqb (groupOf m) (panelAt i b .group .0) && eqb (unitOf m) (panelAt i b .unit .0)))
   pair-in-box l m area q g g′ u u′ =
       by-pair b l m area i q g g′ u u′
-      ∙ ap (isPair (record { 0 = groupOf m }) (record { 0 = unitOf m })) (in-use-name b i v k h)
+      ∙ ap (isPair (record { 0 = groupOf m }) (record { 0 = unitOf m })) (in-use-name b i v k)
       ∙ pair-panel (record { 0 = groupOf m }) (record { 0 = unitOf m }) (panelAt i b)
 
   -- by UDP with 1..99/FFh: a W panel whose group is the packet's group
   pub group-in-box : (m : List ℕ) → hasIds m ≡ true → 1 ≤ groupOf m → groupOf m ≤ 99 → unitOf m ≡ 0xff → addressed (names b) (udp m) i ≡ (eqb (panelAt i b .family) familyW && eqb (groupOf m) (panelAt i b .group .0))
-  group-in-box m q g g′ u = by-group (names b) m i q g g′ u ∙ ap (inGroup (groupOf m)) (in-use-name b i v k h) ∙ group-panel (groupOf m) (panelAt i b)
+  group-in-box m q g g′ u = by-group (names b) m i q g g′ u ∙ ap (inGroup (groupOf m)) (in-use-name b i v k) ∙ group-panel (groupOf m) (panelAt i b)
 
   -- by UDP with FFh/FFh: a W panel
   pub all-in-box : (m : List ℕ) → hasIds m ≡ true → groupOf m ≡ 0xff → unitOf m ≡ 0xff → addressed (names b) (udp m) i ≡ eqb (panelAt i b .family) familyW
-  all-in-box m q g u = by-all (names b) m i q g u ∙ ap isW (in-use-name b i v k h) ∙ w-panel (panelAt i b)
+  all-in-box m q g u = by-all (names b) m i q g u ∙ ap isW (in-use-name b i v k) ∙ w-panel (panelAt i b)

@@ -6,7 +6,6 @@ use mathlib.Core.List.{List, [], _∷_, _++_, map}
 use lib.IntN.{ℤ, pos, negsuc}
 use lib.ListN.{length, getD, take, drop, replicate}
 use Rattle.laws.specs.Bytes.{ascii}
-use Rattle.laws.specs.Numbers.{number}
 use Rattle.terms.specs.Answers.{numberOf}
 use Rattle.panels.specs.Records.{familyW, familyK}
 use Rattle.configure.specs.Configure.{configured}

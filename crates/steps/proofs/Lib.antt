@@ -4,11 +4,14 @@ pub mod AskedBack
 pub mod AskedBackFrames
 pub mod AskedBackSerial
 pub mod Bench
+pub mod Checks
 pub mod Door
 pub mod Finding
+pub mod Judged
 pub mod Notices
 pub mod Numbered
 pub mod Obeyed
+pub mod Only
 pub mod Opened
 pub mod Refusals
 pub mod Shapes

@@ -106,7 +106,7 @@ pub long-to-nobody : (m : List ℕ) → 13 ≤ length m → toNobody m ≡ NotFo
 unfolding toNobody
 long-to-nobody m h = rw (le-ltb (length m) 13 h)
 
-none-called : (m : List ℕ) (ns : List Name) → ((i : ℕ) → isCalled m (getD ns i nobody) ≡ false) → anyCalled m ns ≡ false
+pub none-called : (m : List ℕ) (ns : List Name) → ((i : ℕ) → isCalled m (getD ns i nobody) ≡ false) → anyCalled m ns ≡ false
 none-called m [] n = refl
 none-called m (x ∷ ns) n = rw (n 0) (none-called m ns (λ i. n (suc i)))
 
@@ -115,7 +115,7 @@ pub nobody-udp : (b : DisplayBox) (m : List ℕ) → ((i : ℕ) → addressed (n
 unfolding door addressed
 nobody-udp b m n = stopped b (udp m) (toNobody m) (rw (none-called m (names b) n)) (nobody-shut m)
 
-no-target : (t : ℕ) → ((i : ℕ) → eqb t (suc i) ≡ false) → eqb t 0 ≡ true
+pub no-target : (t : ℕ) → ((i : ℕ) → eqb t (suc i) ≡ false) → eqb t 0 ≡ true
 no-target zero n = refl
 no-target (suc i) n = absurd (false-true (sym (n i) ∙ eq-eqb (suc i) (suc i) refl))
 

@@ -163,15 +163,15 @@ told-lasts j ms b i e = run-stays (λ (p : Panel). saysOf (Get j) (p .w)) (λ (m
 pub balance-lasts : (ms : List Message) (b : DisplayBox) (i : ℕ) → spared (bears 0x40) i b ms ≡ true → panelAt i (run b ms) .w .balance ≡ panelAt i b .w .balance
 balance-lasts ms b i e = run-stays (λ (p : Panel). p .w .balance) (bears 0x40) balance-stays ms b i e
 
+pub neither : (x y : Bool) → (x || y) ≡ false → (x ≡ false) × (y ≡ false)
+neither true y n = absurd (false-true (sym n))
+neither false y n = (refl, n)
+
 -- the connectors and the preset
 pub inputs-last : (ms : List Message) (b : DisplayBox) (i : ℕ) → spared (λ (m : Message). bears 0x21 m || bears 0x22 m) i b ms ≡ true → panelAt i (run b ms) .w .inputs ≡ panelAt i b .w .inputs
 inputs-last ms b i e =
     run-stays (λ (p : Panel). p .w .inputs) (λ (m : Message). bears 0x21 m || bears 0x22 m)
     (λ c m k n. inputs-stay c m k (neither (bears 0x21 m) (bears 0x22 m) n .0) (neither (bears 0x21 m) (bears 0x22 m) n .1)) ms b i e
-  where
-    neither : (x y : Bool) → (x || y) ≡ false → (x ≡ false) × (y ≡ false)
-    neither true y n = absurd (false-true (sym n))
-    neither false y n = (refl, n)
 
 -- the value of a KJW state
 pub value-lasts : (s : State) (ms : List Message) (b : DisplayBox) (i : ℕ) → spared (λ (m : Message). setsState m s) i b ms ≡ true → valueOf s (panelAt i (run b ms) .k) ≡ valueOf s (panelAt i b .k)

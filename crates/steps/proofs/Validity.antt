@@ -21,7 +21,7 @@ use Rattle.steps.specs.Addressing.{addressed}
 use Rattle.steps.specs.Step.{turn, Outcome, panelAt, withPanels, step}
 use Rattle.steps.proofs.Sound.{sound}
 use Rattle.steps.proofs.Door.{opens, done-opens, shut, speaks, nobody-speaks, its-family, by-door}
-use Rattle.steps.proofs.Turns.{Reaches, reaches-inside, at-place}
+use Rattle.steps.proofs.Turns.{Reaches, at-place}
 
 -- ---- the number of places
 
@@ -115,11 +115,12 @@ names-kept b m = go (valid b) refl
 
 -- ---- what no message touches
 
-name-here : (n : ℕ) (ps : List Panel) (i : ℕ) → i < n → i < length ps → getD (map nameOf (take n ps)) i nobody ≡ nameOf (getD ps i pastEnd)
-name-here zero ps i h k = absurd (omega arith)
-name-here (suc n) [] i h k = absurd (omega arith)
-name-here (suc n) (p ∷ ps) zero h k = refl
-name-here (suc n) (p ∷ ps) (suc i) h k = name-here n ps i (omega arith) (omega arith)
+name-here : (n : ℕ) (ps : List Panel) (i : ℕ) → i < n → getD (map nameOf (take n ps)) i nobody ≡ nameOf (getD ps i pastEnd)
+unfolding nameOf
+name-here zero ps i h = absurd (omega arith)
+name-here (suc n) [] i h = refl
+name-here (suc n) (p ∷ ps) zero h = refl
+name-here (suc n) (p ∷ ps) (suc i) h = name-here n ps i (omega arith)
 
 name-behind : (n : ℕ) (ps : List Panel) (i : ℕ) → n ≤ i → getD (map nameOf (take n ps)) i nobody ≡ nobody
 name-behind zero ps i h = refl
@@ -128,8 +129,8 @@ name-behind (suc n) (p ∷ ps) zero h = absurd (omega arith)
 name-behind (suc n) (p ∷ ps) (suc i) h = name-behind n ps i (omega arith)
 
 -- the name at a place in use is that of the panel there, and behind the panels in use there is none
-pub in-use-name : (b : DisplayBox) (i : ℕ) → valid b ≡ true → i < b .count → i < length (b .panels) → getD (names b) i nobody ≡ nameOf (panelAt i b)
-in-use-name b i v k h = ap (λ (ns : List Name). getD ns i nobody) (valid-names b v) ∙ name-here (b .count) (b .panels) i k h
+pub in-use-name : (b : DisplayBox) (i : ℕ) → valid b ≡ true → i < b .count → getD (names b) i nobody ≡ nameOf (panelAt i b)
+in-use-name b i v k = ap (λ (ns : List Name). getD ns i nobody) (valid-names b v) ∙ name-here (b .count) (b .panels) i k
 
 pub unused-name : (b : DisplayBox) (i : ℕ) → valid b ≡ true → b .count ≤ i → getD (names b) i nobody ≡ nobody
 unused-name b i v k = ap (λ (ns : List Name). getD ns i nobody) (valid-names b v) ∙ name-behind (b .count) (b .panels) i k
@@ -142,7 +143,7 @@ its-own {b} {m} {i} r = judge (valid b) refl
     spoken = its-family (names b) m i (r .passes) (r .meant)
 
     place : (t : Bool) → ltb i (b .count) ≡ t → valid b ≡ true → (i < b .count) × (speaks m (nameOf (panelAt i b)) ≡ true)
-    place true t v = let k = ltb-true i (b .count) t in (k, sym (ap (speaks m) (in-use-name b i v k (reaches-inside r))) ∙ spoken)
+    place true t v = let k = ltb-true i (b .count) t in (k, sym (ap (speaks m) (in-use-name b i v k)) ∙ spoken)
     place false t v =
         absurd (false-true (sym (nobody-speaks m) ∙ sym (ap (speaks m) (unused-name b i v (ltb-false i (b .count) t))) ∙ spoken))
 

@@ -1,0 +1,296 @@
+-- Behind the envelope a message is understood or it is not: by the rungs of what each protocol hears, whatever the panel.
+use Prim.Native.Nat.{ℕ, suc, _+_, _*_, _%_}
+use mathlib.Core.Path.{_≡_, refl, sym, _∙_}
+use mathlib.Core.Bool.{Bool, true, false, not, cond, _&&_, _||_}
+use mathlib.Core.List.{List, [], _∷_}
+use lib.Count.{ones}
+use lib.Dec.{eqb, leb, ltb}
+use lib.ListN.{length, getD}
+use Rattle.laws.specs.Bytes.{ascii, part, same}
+use Rattle.laws.specs.Lists.{every}
+use Rattle.laws.proofs.Conditions.{choose, false-true}
+use Rattle.terms.specs.Answers.{numberOf}
+use Rattle.terms.specs.declared.Answer.the-variants.{WrongLength, NotForUs}
+use Rattle.panels.specs.declared.WRecord.{WRecord}
+use Rattle.panels.specs.declared.KRecord.{KRecord}
+use Rattle.panels.specs.Valid.{okInput}
+use Rattle.decimals.specs.Decimals.{isDigit, decimal}
+use Rattle.vmc_asks.specs.Asks.{readData}
+use Rattle.vmc_asks.specs.declared.Order as wordOrder
+use Rattle.vmc_asks.specs.declared.Words.{Words}
+use Rattle.vmc_asks.specs.declared.Words.the-variants.{Understood as UnderstoodWords, NotUnderstood as NotUnderstoodWords}
+use Rattle.rs232c_asks.specs.Asks as serialAsks
+use Rattle.rs232c_asks.specs.Commands.{configGood, selectGood}
+use Rattle.rs232c.specs.Replies as serial
+use Rattle.rs232c_asks.specs.declared.Order as serialOrder
+use Rattle.rs232c_asks.specs.declared.Heard as serialHeard
+use Rattle.rs232c_asks.specs.declared.Heard.the-variants as serialIs
+use Rattle.sdcp_asks.specs.Asks as packetAsks
+use Rattle.sdcp.specs.Replies as packets
+use Rattle.sdcp_asks.specs.declared.Heard as packetHeard
+use Rattle.sdcp_asks.specs.declared.Heard.the-variants as packetIs
+use Rattle.kjw.specs.Replies as frames
+use Rattle.kjw_asks.specs.Asks as frameAsks
+use Rattle.kjw_sets.specs.Sets as frameSets
+use Rattle.kjw_asks.specs.Frames.{blank, lettersOf, typeControl}
+use Rattle.kjw_asks.specs.declared.Named.{Named}
+use Rattle.kjw_asks.specs.declared.Named.the-variants.{Is, Nothing}
+use Rattle.kjw_sets.specs.declared.State.{State}
+use Rattle.kjw_sets.specs.declared.State.the-variants.{Power, AudioMute, PictureMute, Volume, Input, Scene}
+use Rattle.kjw_sets.specs.declared.Order as frameOrder
+use Rattle.kjw_sets.specs.declared.Heard as frameHeard
+use Rattle.kjw_sets.specs.declared.Heard.the-variants as frameIs
+
+-- the number of the first of some conditions that holds, counted from n; 0 where none does
+abbrev pub firstFrom : ℕ → List Bool → ℕ
+firstFrom n [] = 0
+firstFrom n (c ∷ cs) = cond c n (firstFrom (suc n) cs)
+
+-- ---- RS-232C
+
+-- what was heard is not understood
+abbrev pub serialUnclear : serialHeard.Heard → Bool
+serialUnclear (serialIs.Refused a) = false
+serialUnclear (serialIs.Broken s) = false
+serialUnclear (serialIs.NotUnderstood s) = true
+serialUnclear (serialIs.Understood s o) = false
+
+-- "Under 6 bytes: 3. First byte not 02h, destination not 01h, or source outside 41h to 7Fh: 4. Byte count [..]: 5. The sum [..]: 5.", and 6 where the
+-- command is not understood
+abbrev pub serialConditions : List ℕ → List Bool
+serialConditions m = ltb (length m) 6 ∷ serialAsks.isForeign m ∷ serialAsks.isBroken m ∷ serialUnclear (serialAsks.heardOf m) ∷ []
+
+abbrev serialNumber : serialHeard.Heard → ℕ
+serialNumber (serialIs.Refused a) = numberOf a
+serialNumber (serialIs.Broken s) = 5
+serialNumber (serialIs.NotUnderstood s) = 6
+serialNumber (serialIs.Understood s o) = 0
+
+-- neither refused nor broken
+abbrev SerialJudged : serialHeard.Heard → Type 0
+SerialJudged (serialIs.Refused a) = ⊥
+SerialJudged (serialIs.Broken s) = ⊥
+SerialJudged (serialIs.NotUnderstood s) = Unit {0}
+SerialJudged (serialIs.Understood s o) = Unit {0}
+
+serial-number : (h : serialHeard.Heard) → SerialJudged h → serialNumber h ≡ cond (serialUnclear h) 6 0
+serial-number (serialIs.Refused a) j = absurd j
+serial-number (serialIs.Broken s) j = absurd j
+serial-number (serialIs.NotUnderstood s) j = refl
+serial-number (serialIs.Understood s o) j = refl
+
+command-judged : (s code n a b : ℕ) → SerialJudged (serialAsks.commandOf s code n a b)
+unfolding serialAsks.commandOf serialAsks.configCommand serialAsks.selectCommand serialAsks.levelsCommand serialAsks.senseCommand
+command-judged s code n a b =
+    choose SerialJudged (eqb code 0x21) _ _ (λ e. choose SerialJudged (not (eqb n 2)) _ _ (λ f. tt) (λ f. choose SerialJudged (not (configGood a b)) _ _ (λ g. tt) (λ g. tt)))
+    (λ e. choose SerialJudged (eqb code 0x22) _ _ (λ f. choose SerialJudged (not (eqb n 1)) _ _ (λ g. tt) (λ g. choose SerialJudged (not (selectGood a)) _ _ (λ h. tt) (λ h. tt)))
+    (λ f. choose SerialJudged (eqb code 0x40) _ _ (λ g. choose SerialJudged (not (eqb n (1 + 2 * ones (a % 64)))) _ _ (λ h. tt) (λ h. tt))
+    (λ g. choose SerialJudged (eqb code 0x61) _ _ (λ h. choose SerialJudged (not (eqb n 1)) _ _ (λ i. tt) (λ i. choose SerialJudged (eqb a 1) _ _ (λ j. tt) (λ j. choose SerialJudged (eqb a 2) _ _ (λ k. tt) (λ k. tt))))
+    (λ h. choose SerialJudged (not (eqb code 0x6e)) _ _ (λ i. tt) (λ i. choose SerialJudged (not (eqb n 0)) _ _ (λ j. tt) (λ j. tt))))))
+
+serial-heard : (m : List ℕ) → serialNumber (serialAsks.heardOf m) ≡ firstFrom 3 (serialConditions m)
+unfolding serialAsks.heardOf
+serial-heard m = go (ltb (length m) 6) (serialAsks.isForeign m) (serialAsks.isBroken m) (getD m 3 0) _ (command-judged _ _ _ _ _)
+  where
+    go : (a b c : Bool) (s : ℕ) (h : serialHeard.Heard) → SerialJudged h → serialNumber (cond a (serialIs.Refused WrongLength) (cond b (serialIs.Refused NotForUs) (cond c (serialIs.Broken s) h))) ≡ firstFrom 3 (a ∷ b ∷ c ∷ serialUnclear (cond a (serialIs.Refused WrongLength) (cond b (serialIs.Refused NotForUs) (cond c (serialIs.Broken s) h))) ∷ [])
+    go true b c s h j = refl
+    go false true c s h j = refl
+    go false false true s h j = refl
+    go false false false s h j = serial-number h j
+
+serial-turned : (h : serialHeard.Heard) (vs : List ℕ) (w : WRecord) → numberOf (serial.turned h vs w .answer) ≡ serialNumber h
+unfolding serial.turned
+serial-turned (serialIs.Refused a) vs w = refl
+serial-turned (serialIs.Broken s) vs w = refl
+serial-turned (serialIs.NotUnderstood s) vs w = refl
+serial-turned (serialIs.Understood s o) vs w = refl
+
+-- the number of the answer to a frame
+pub serial-answered : (m : List ℕ) (w : WRecord) → numberOf (serial.turnOf m w .answer) ≡ firstFrom 3 (serialConditions m)
+serial-answered m w = serial-turned (serialAsks.heardOf m) (serialAsks.valuesOf m) w ∙ serial-heard m
+
+-- condition 6 in words of what was heard; past the envelope nothing is refused or broken, so without it an order is understood
+pub serial-unclear : (m : List ℕ) → serialUnclear (serialAsks.heardOf m) ≡ true → (s : ℕ) × (serialAsks.heardOf m ≡ serialIs.NotUnderstood s)
+serial-unclear m = go (serialAsks.heardOf m)
+  where
+    go : (h : serialHeard.Heard) → serialUnclear h ≡ true → (s : ℕ) × (h ≡ serialIs.NotUnderstood s)
+    go (serialIs.Refused a) u = absurd (false-true u)
+    go (serialIs.Broken s) u = absurd (false-true u)
+    go (serialIs.NotUnderstood s) u = (s, refl)
+    go (serialIs.Understood s o) u = absurd (false-true u)
+
+pub serial-clear : (m : List ℕ) → ltb (length m) 6 ≡ false → serialAsks.isForeign m ≡ false → serialAsks.isBroken m ≡ false → serialUnclear (serialAsks.heardOf m) ≡ false → (s : ℕ) × (o : serialOrder.Order) × (serialAsks.heardOf m ≡ serialIs.Understood s o)
+unfolding serialAsks.heardOf
+serial-clear m a b c = rw (a, b, c) (go _ (command-judged _ _ _ _ _))
+  where
+    go : (h : serialHeard.Heard) → SerialJudged h → serialUnclear h ≡ false → (s : ℕ) × (o : serialOrder.Order) × (h ≡ serialIs.Understood s o)
+    go (serialIs.Refused a) j u = absurd j
+    go (serialIs.Broken s) j u = absurd j
+    go (serialIs.NotUnderstood s) j u = absurd (false-true (sym u))
+    go (serialIs.Understood s o) j u = (s, o, refl)
+
+-- ---- SDCP
+
+abbrev pub packetUnclear : packetHeard.Heard → Bool
+packetUnclear (packetIs.Refused a) = false
+packetUnclear packetIs.Broken = false
+packetUnclear packetIs.NotUnderstood = true
+packetUnclear (packetIs.Understood o) = false
+
+-- "Under 13 bytes: 3. Wrong version, category or community, or no panel addressed: 4. [..] Then 5 if request is not 00h, [..]", and 6 where the
+-- words are not understood
+abbrev pub packetConditions : Bool → List ℕ → List Bool
+packetConditions nobody m =
+    ltb (length m) 13 ∷ (not (packetAsks.isOurs m) || nobody) ∷ packetAsks.isBroken m ∷ packetUnclear (packetAsks.heardOf m) ∷ []
+
+abbrev PacketJudged : packetHeard.Heard → Type 0
+PacketJudged (packetIs.Refused a) = ⊥
+PacketJudged packetIs.Broken = ⊥
+PacketJudged packetIs.NotUnderstood = Unit {0}
+PacketJudged (packetIs.Understood o) = Unit {0}
+
+packet-number : (h : packetHeard.Heard) → PacketJudged h → numberOf (packets.answerOf h) ≡ cond (packetUnclear h) 6 0
+packet-number (packetIs.Refused a) j = absurd j
+packet-number packetIs.Broken j = absurd j
+packet-number packetIs.NotUnderstood j = refl
+packet-number (packetIs.Understood o) j = refl
+
+words-judged : (x : Words) → PacketJudged (packetAsks.inWords x)
+words-judged (UnderstoodWords o) = tt
+words-judged NotUnderstoodWords = tt
+
+-- the number of the answer to a packet, whatever the panel
+pub packet-answered : (m : List ℕ) → numberOf (packets.answerOf (packetAsks.heardOf m)) ≡ firstFrom 3 (packetConditions false m)
+unfolding packetAsks.heardOf
+packet-answered m = go (ltb (length m) 13) (not (packetAsks.isOurs m)) (packetAsks.isBroken m) _ (words-judged (readData (packetAsks.dataOf m)))
+  where
+    go : (a b c : Bool) (h : packetHeard.Heard) → PacketJudged h → numberOf (packets.answerOf (cond a (packetIs.Refused WrongLength) (cond b (packetIs.Refused NotForUs) (cond c packetIs.Broken h)))) ≡ firstFrom 3 (a ∷ (b || false) ∷ c ∷ packetUnclear (cond a (packetIs.Refused WrongLength) (cond b (packetIs.Refused NotForUs) (cond c packetIs.Broken h))) ∷ [])
+    go true b c h j = refl
+    go false true c h j = refl
+    go false false true h j = refl
+    go false false false h j = packet-number h j
+
+pub packet-unclear : (m : List ℕ) → packetUnclear (packetAsks.heardOf m) ≡ true → packetAsks.heardOf m ≡ packetIs.NotUnderstood
+packet-unclear m = go (packetAsks.heardOf m)
+  where
+    go : (h : packetHeard.Heard) → packetUnclear h ≡ true → h ≡ packetIs.NotUnderstood
+    go (packetIs.Refused a) u = absurd (false-true u)
+    go packetIs.Broken u = absurd (false-true u)
+    go packetIs.NotUnderstood u = refl
+    go (packetIs.Understood o) u = absurd (false-true u)
+
+pub packet-clear : (m : List ℕ) → ltb (length m) 13 ≡ false → packetAsks.isOurs m ≡ true → packetAsks.isBroken m ≡ false → packetUnclear (packetAsks.heardOf m) ≡ false → (o : wordOrder.Order) × (packetAsks.heardOf m ≡ packetIs.Understood o)
+unfolding packetAsks.heardOf
+packet-clear m a b c = rw (a, b, c) (go _ (words-judged (readData (packetAsks.dataOf m))))
+  where
+    go : (h : packetHeard.Heard) → PacketJudged h → packetUnclear h ≡ false → (o : wordOrder.Order) × (h ≡ packetIs.Understood o)
+    go (packetIs.Refused a) j u = absurd j
+    go packetIs.Broken j u = absurd j
+    go packetIs.NotUnderstood j u = absurd (false-true (sym u))
+    go (packetIs.Understood o) j u = (o, refl)
+
+-- ---- KJW
+
+abbrev pub frameUnclear : frameHeard.Heard → Bool
+frameUnclear (frameIs.Refused a) = false
+frameUnclear frameIs.NotUnderstood = true
+frameUnclear (frameIs.Understood o) = false
+
+-- "Other length: 3. Wrong `*S`, footer, or a type not C or E: 4. [..] All else: 6.": there is no envelope to be wrong
+abbrev pub frameConditions : List ℕ → List Bool
+frameConditions m = not (eqb (length m) 24) ∷ not (frameAsks.isOurs m) ∷ false ∷ frameUnclear (frameAsks.heardOf m) ∷ []
+
+abbrev frameNumber : frameHeard.Heard → ℕ
+frameNumber (frameIs.Refused a) = numberOf a
+frameNumber frameIs.NotUnderstood = 6
+frameNumber (frameIs.Understood o) = 0
+
+abbrev FrameJudged : frameHeard.Heard → Type 0
+FrameJudged (frameIs.Refused a) = ⊥
+FrameJudged frameIs.NotUnderstood = Unit {0}
+FrameJudged (frameIs.Understood o) = Unit {0}
+
+frame-number : (h : frameHeard.Heard) → FrameJudged h → frameNumber h ≡ cond (frameUnclear h) 6 0
+frame-number (frameIs.Refused a) j = absurd j
+frame-number frameIs.NotUnderstood j = refl
+frame-number (frameIs.Understood o) j = refl
+
+order-judged : (most v : ℕ) (o : frameOrder.Order) → FrameJudged (frameSets.upTo most v o)
+unfolding frameSets.upTo
+order-judged most v o = choose FrameJudged (leb v most) _ _ (λ e. tt) (λ e. tt)
+
+input-judged : (kind port : ℕ) → FrameJudged (frameSets.inputOf kind port)
+unfolding frameSets.inputOf
+input-judged kind port = choose FrameJudged (okInput kind port) _ _ (λ e. tt) (λ e. tt)
+
+by-judged : (s : State) (p : List ℕ) → FrameJudged (frameSets.setBy s p)
+unfolding frameSets.setBy frameSets.volumeOrder frameSets.inputOrder
+by-judged Power p = order-judged 1 _ _
+by-judged AudioMute p = order-judged 1 _ _
+by-judged PictureMute p = order-judged 1 _ _
+by-judged Volume p = choose FrameJudged (frameSets.isVolume p) _ _ (λ e. tt) (λ e. tt)
+by-judged Input p =
+    choose FrameJudged (frameSets.isPadded p && every isDigit (frameSets.kindIn p) && every isDigit (frameSets.portIn p)) _ _
+    (λ e. input-judged (decimal (frameSets.kindIn p)) (decimal (frameSets.portIn p)))
+    (λ e. tt)
+by-judged Scene p = order-judged 2 _ _
+
+set-judged : (s : State) (p : List ℕ) → FrameJudged (frameSets.setOf s p)
+unfolding frameSets.setOf
+set-judged s p = choose FrameJudged (eqb (length p) 16) _ _ (λ e. by-judged s p) (λ e. tt)
+
+control-judged : (n : Named) (l p : List ℕ) → FrameJudged (frameAsks.controlBy n l p)
+unfolding frameAsks.toggleOf
+control-judged (Is s) l p = set-judged s p
+control-judged Nothing l p =
+    choose FrameJudged (not (same p blank)) _ _ (λ e. tt)
+    (λ e. choose FrameJudged (same l (ascii "TPOW")) _ _ (λ f. tt) (λ f. choose FrameJudged (same l (ascii "TPMU")) _ _ (λ g. tt) (λ g. tt)))
+
+asked-judged : (n : Named) → FrameJudged (frameAsks.enquiryBy n)
+asked-judged (Is s) = tt
+asked-judged Nothing = tt
+
+enquiry-judged : (l p : List ℕ) → FrameJudged (frameAsks.enquiryOf l p)
+unfolding frameAsks.enquiryOf
+enquiry-judged l p = choose FrameJudged (not (same p blank)) _ _ (λ e. tt) (λ e. asked-judged (frameAsks.stateNamed l))
+
+asks-judged : (m : List ℕ) → FrameJudged (cond (eqb (getD m 2 0) typeControl) (frameAsks.controlOf (lettersOf m) (part 7 16 m)) (frameAsks.enquiryOf (lettersOf m) (part 7 16 m)))
+unfolding frameAsks.controlOf
+asks-judged m = choose FrameJudged (eqb (getD m 2 0) typeControl) _ _ (λ g. control-judged (frameAsks.stateNamed (lettersOf m)) (lettersOf m) (part 7 16 m)) (λ g. enquiry-judged (lettersOf m) (part 7 16 m))
+
+frame-heard : (m : List ℕ) → frameNumber (frameAsks.heardOf m) ≡ firstFrom 3 (frameConditions m)
+unfolding frameAsks.heardOf
+frame-heard m = go (not (eqb (length m) 24)) (not (frameAsks.isOurs m)) _ (asks-judged m)
+  where
+    go : (a b : Bool) (h : frameHeard.Heard) → FrameJudged h → frameNumber (cond a (frameIs.Refused WrongLength) (cond b (frameIs.Refused NotForUs) h)) ≡ firstFrom 3 (a ∷ b ∷ false ∷ frameUnclear (cond a (frameIs.Refused WrongLength) (cond b (frameIs.Refused NotForUs) h)) ∷ [])
+    go true b h j = refl
+    go false true h j = refl
+    go false false h j = frame-number h j
+
+frame-turned : (h : frameHeard.Heard) (k : KRecord) → numberOf (frames.decided k h .answer) ≡ frameNumber h
+unfolding frames.decided
+frame-turned (frameIs.Refused a) k = refl
+frame-turned frameIs.NotUnderstood k = refl
+frame-turned (frameIs.Understood o) k = refl
+
+-- the number of the answer to a frame
+pub frame-answered : (m : List ℕ) (k : KRecord) → numberOf (frames.turnOf m k .answer) ≡ firstFrom 3 (frameConditions m)
+unfolding frames.turnOf
+frame-answered m k = frame-turned (frameAsks.heardOf m) k ∙ frame-heard m
+
+pub frame-unclear : (m : List ℕ) → frameUnclear (frameAsks.heardOf m) ≡ true → frameAsks.heardOf m ≡ frameIs.NotUnderstood
+frame-unclear m = go (frameAsks.heardOf m)
+  where
+    go : (h : frameHeard.Heard) → frameUnclear h ≡ true → h ≡ frameIs.NotUnderstood
+    go (frameIs.Refused a) u = absurd (false-true u)
+    go frameIs.NotUnderstood u = refl
+    go (frameIs.Understood o) u = absurd (false-true u)
+
+pub frame-clear : (m : List ℕ) → eqb (length m) 24 ≡ true → frameAsks.isOurs m ≡ true → frameUnclear (frameAsks.heardOf m) ≡ false → (o : frameOrder.Order) × (frameAsks.heardOf m ≡ frameIs.Understood o)
+unfolding frameAsks.heardOf
+frame-clear m a b = rw (a, b) (go _ (asks-judged m))
+  where
+    go : (h : frameHeard.Heard) → FrameJudged h → frameUnclear h ≡ false → (o : frameOrder.Order) × (h ≡ frameIs.Understood o)
+    go (frameIs.Refused a) j u = absurd j
+    go frameIs.NotUnderstood j u = absurd (false-true (sym u))
+    go (frameIs.Understood o) j u = (o, refl)

@@ -1,0 +1,309 @@
+-- "each is given only when its stated condition holds": what an answer's number says of the box and the message, in words of the record and
+-- the bytes, and that no check before it applied. The answer is the number of the first condition that holds (`checked`).
+use Prim.Native.Nat.{ℕ, zero, suc, _+_, _%_, _<_, _≤_}
+use mathlib.Core.Path.{_≡_, refl, sym, ap, _∙_}
+use mathlib.Core.Bool.{Bool, true, false, not, cond, _&&_, _||_}
+use mathlib.Core.List.{List, [], _∷_}
+use native.Mathlib.Omega.{arith}
+use lib.Dec.{eqb, ltb}
+use lib.ListN.{length, getD}
+use borrow.Author.Tests.{eqb-true, eqb-false, ltb-true, ltb-false, not-true, not-false, ne-eqb}
+use Rattle.laws.proofs.Conditions.{false-true}
+use Rattle.terms.specs.Answers.{numberOf}
+use Rattle.panels.specs.Records.{familyW, familyK}
+use Rattle.panels.specs.Valid.{valid}
+use Rattle.panels.specs.declared.DisplayBox.{DisplayBox}
+use Rattle.configure.specs.Configure.{asked, refusal, configured}
+use Rattle.terms.specs.declared.Answer.the-variants.{Done}
+use Rattle.rs232c_asks.specs.Asks as serialAsks
+use Rattle.rs232c_asks.specs.declared.Order as serialOrder
+use Rattle.rs232c_asks.specs.declared.Heard.the-variants as serialIs
+use Rattle.kjw_asks.specs.Asks as frameAsks
+use Rattle.kjw_sets.specs.declared.Order as frameOrder
+use Rattle.kjw_sets.specs.declared.Heard.the-variants as frameIs
+use Rattle.sdcp_asks.specs.Asks as packetAsks
+use Rattle.vmc_asks.specs.declared.Order as wordOrder
+use Rattle.sdcp_asks.specs.declared.Heard.the-variants as packetIs
+use Rattle.steps.specs.Messages.{Message, rs232c, kjw, tcp, udp, Name, nobody, names}
+use Rattle.steps.specs.Addressing.{target, isCalled, addressed, anyCalled}
+use Rattle.steps.specs.Step.{panelAt, step}
+use Rattle.steps.proofs.Door.{Lends, by-rs232c, by-kjw, by-tcp}
+use Rattle.steps.proofs.Refusals.{none-called, no-target}
+use Rattle.steps.proofs.Stays.{neither}
+use Rattle.steps.proofs.Judged.{firstFrom, serial-unclear, serial-clear, packet-unclear, packet-clear, frame-unclear, frame-clear}
+use Rattle.steps.proofs.Checks.{hasPanel, conditions, checked}
+
+-- ---- the stated conditions
+
+-- 1: "reply area under 512 bytes"
+pub data Small : Message → Type 0 where
+  under-512 : {l : ℕ} {area : List ℕ} {m : Message} → Lends l area m → length area < 512 → Small m
+
+-- the family that a way in speaks to
+abbrev pub familyOf : Message → ℕ
+familyOf (rs232c l m area) = familyW
+familyOf (kjw l m area) = familyK
+familyOf (tcp l m area) = familyW
+familyOf (udp m) = familyW
+
+-- 2: "no panel with that link number, or it is of the other family"; a box that breaks the rules "is answered as a box of no panels"
+pub data Missing (b : DisplayBox) (family : ℕ) : ℕ → Type 0 where
+  link-zero : Missing b family 0
+  above-count : {i : ℕ} → b .count ≤ i → Missing b family (suc i)
+  other-family : {i : ℕ} → (panelAt i b .family ≡ family → ⊥) → Missing b family (suc i)
+  breaks-rules : {l : ℕ} → valid b ≡ false → Missing b family l
+
+pub data NoPanel (b : DisplayBox) : Message → Type 0 where
+  no-panel : {l : ℕ} {area : List ℕ} {m : Message} → Lends l area m → 512 ≤ length area → Missing b (familyOf m) l → NoPanel b m
+
+-- neither 1 nor 2: room for a reply, and a panel of the way's family on the link of a box that keeps the rules; "UDP skips 1 and 2."
+pub data LetIn (b : DisplayBox) : Message → Type 0 where
+  on-link : {i : ℕ} {area : List ℕ} {m : Message} → Lends (suc i) area m → 512 ≤ length area → valid b ≡ true → i < b .count → panelAt i b .family ≡ familyOf m → LetIn b m
+  skipped : {m : List ℕ} → LetIn b (udp m)
+
+-- 3: "too short to be a message, or wrong fixed length"
+abbrev pub BadLength : Message → Type 0
+BadLength (rs232c l m area) = length m < 6
+BadLength (kjw l m area) = length m ≡ 24 → ⊥
+BadLength (tcp l m area) = length m < 13
+BadLength (udp m) = length m < 13
+
+-- 4: "not for us", by SDCP "Wrong version, category or community, or no panel addressed"
+pub data NotOurs (b : DisplayBox) (x : Message) (m : List ℕ) : Type 0 where
+  wrong-front : packetAsks.isOurs m ≡ false → NotOurs b x m
+  to-nobody : ((i : ℕ) → addressed (names b) x i ≡ false) → NotOurs b x m
+
+abbrev pub Foreign : DisplayBox → Message → Type 0
+Foreign b (rs232c l m area) = serialAsks.isForeign m ≡ true
+Foreign b (kjw l m area) = frameAsks.isOurs m ≡ false
+Foreign b (tcp l m area) = NotOurs b (tcp l m area) m
+Foreign b (udp m) = NotOurs b (udp m) m
+
+-- 5: "envelope wrong"; KJW has none
+abbrev pub Broken : Message → Type 0
+Broken (rs232c l m area) = serialAsks.isBroken m ≡ true
+Broken (kjw l m area) = ⊥
+Broken (tcp l m area) = packetAsks.isBroken m ≡ true
+Broken (udp m) = packetAsks.isBroken m ≡ true
+
+-- 6: "contents not understood"
+abbrev pub Unclear : Message → Type 0
+Unclear (rs232c l m area) = (s : ℕ) × (serialAsks.heardOf m ≡ serialIs.NotUnderstood s)
+Unclear (kjw l m area) = frameAsks.heardOf m ≡ frameIs.NotUnderstood
+Unclear (tcp l m area) = packetAsks.heardOf m ≡ packetIs.NotUnderstood
+Unclear (udp m) = packetAsks.heardOf m ≡ packetIs.NotUnderstood
+
+-- 0: an order was understood
+abbrev pub Clear : Message → Type 0
+Clear (rs232c l m area) = (s : ℕ) × (o : serialOrder.Order) × (serialAsks.heardOf m ≡ serialIs.Understood s o)
+Clear (kjw l m area) = (o : frameOrder.Order) × (frameAsks.heardOf m ≡ frameIs.Understood o)
+Clear (tcp l m area) = (o : wordOrder.Order) × (packetAsks.heardOf m ≡ packetIs.Understood o)
+Clear (udp m) = (o : wordOrder.Order) × (packetAsks.heardOf m ≡ packetIs.Understood o)
+
+-- ---- the first that holds
+
+before : (n : ℕ) (cs : List Bool) (j : ℕ) → 0 < j → j < n → firstFrom n cs ≡ j → ⊥
+before n [] j h k e = omega arith
+before n (true ∷ cs) j h k e = omega arith
+before n (false ∷ cs) j h k e = before (suc n) cs j h (omega arith) e
+
+-- the condition at place k holds, and none before it
+record Fires (cs : List Bool) (k : ℕ) : Type 0 where
+  holds : getD cs k false ≡ true
+  none-before : (j : ℕ) → j < k → getD cs j false ≡ false
+
+later : {cs : List Bool} {k : ℕ} → Fires cs k → Fires (false ∷ cs) (suc k)
+later {cs} {k} t = record { holds = t .holds; none-before = go }
+  where
+    go : (j : ℕ) → j < suc k → getD (false ∷ cs) j false ≡ false
+    go zero i = refl
+    go (suc j) i = t .none-before j (omega arith)
+
+fires : (n : ℕ) (cs : List Bool) (k : ℕ) → 0 < n → firstFrom n cs ≡ n + k → Fires cs k
+fires n [] k h e = absurd (omega arith)
+fires n (true ∷ cs) zero h e = record { holds = refl; none-before = λ j i. absurd (omega arith) }
+fires n (true ∷ cs) (suc k) h e = absurd (omega arith)
+fires n (false ∷ cs) zero h e = absurd (before (suc n) cs n h (omega arith) (omega arith))
+fires n (false ∷ cs) (suc k) h e = later (fires (suc n) cs k (omega arith) (omega arith))
+
+-- none holds
+none : (n : ℕ) (cs : List Bool) → 0 < n → firstFrom n cs ≡ 0 → (j : ℕ) → getD cs j false ≡ false
+none n [] h e j = refl
+none n (true ∷ cs) h e j = absurd (omega arith)
+none n (false ∷ cs) h e zero = refl
+none n (false ∷ cs) h e (suc j) = none (suc n) cs (omega arith) e j
+
+-- ---- a condition says what it states
+
+uncalled : (m : List ℕ) (ns : List Name) → anyCalled m ns ≡ false → (i : ℕ) → isCalled m (getD ns i nobody) ≡ false
+unfolding isCalled
+uncalled m [] n i = refl
+uncalled m (x ∷ ns) n zero = neither (isCalled m x) (anyCalled m ns) n .0
+uncalled m (x ∷ ns) n (suc i) = uncalled m ns (neither (isCalled m x) (anyCalled m ns) n .1) i
+
+module _ (b : DisplayBox) where
+  abbrev at : Message → ℕ → Bool
+  at m k = getD (conditions b m) k false
+
+  small : (m : Message) → at m 0 ≡ true → Small m
+  small (rs232c l m area) e = under-512 (by-rs232c m) (ltb-true (length area) 512 e)
+  small (kjw l m area) e = under-512 (by-kjw m) (ltb-true (length area) 512 e)
+  small (tcp l m area) e = under-512 (by-tcp m) (ltb-true (length area) 512 e)
+  small (udp m) e = absurd (false-true e)
+
+  missing : (family l : ℕ) → not (hasPanel b l family) ≡ true → Missing b family l
+  missing family zero e = link-zero
+  missing family (suc i) e = go (valid b) (ltb i (b .count)) (eqb (panelAt i b .family) family) refl refl refl (not-true (hasPanel b (suc i) family) e)
+    where
+      go : (v c f : Bool) → valid b ≡ v → ltb i (b .count) ≡ c → eqb (panelAt i b .family) family ≡ f → (v && c && f) ≡ false → Missing b family (suc i)
+      go false c f v c′ f′ n = breaks-rules v
+      go true false f v c′ f′ n = above-count (ltb-false i (b .count) c′)
+      go true true f v c′ f′ n = other-family (eqb-false (panelAt i b .family) family (f′ ∙ n))
+
+  no-panel-here : (m : Message) → at m 0 ≡ false → at m 1 ≡ true → NoPanel b m
+  no-panel-here (rs232c l m area) a e = no-panel (by-rs232c m) (ltb-false (length area) 512 a) (missing familyW l e)
+  no-panel-here (kjw l m area) a e = no-panel (by-kjw m) (ltb-false (length area) 512 a) (missing familyK l e)
+  no-panel-here (tcp l m area) a e = no-panel (by-tcp m) (ltb-false (length area) 512 a) (missing familyW l e)
+  no-panel-here (udp m) a e = absurd (false-true e)
+
+  there : {area : List ℕ} {m : Message} (l : ℕ) → Lends l area m → ltb (length area) 512 ≡ false → not (hasPanel b l (familyOf m)) ≡ false → LetIn b m
+  there zero k a e = absurd (false-true (sym e))
+  there {area} {m} (suc i) k a e = go (valid b) (ltb i (b .count)) (eqb (panelAt i b .family) (familyOf m)) refl refl refl (not-false (hasPanel b (suc i) (familyOf m)) e)
+    where
+      go : (v c f : Bool) → valid b ≡ v → ltb i (b .count) ≡ c → eqb (panelAt i b .family) (familyOf m) ≡ f → (v && c && f) ≡ true → LetIn b m
+      go false c f v c′ f′ n = absurd (false-true n)
+      go true false f v c′ f′ n = absurd (false-true n)
+      go true true f v c′ f′ n = on-link k (ltb-false (length area) 512 a) v (ltb-true i (b .count) c′) (eqb-true (panelAt i b .family) (familyOf m) (f′ ∙ n))
+
+  let-in : (m : Message) → at m 0 ≡ false → at m 1 ≡ false → LetIn b m
+  let-in (rs232c l m area) a e = there l (by-rs232c m) a e
+  let-in (kjw l m area) a e = there l (by-kjw m) a e
+  let-in (tcp l m area) a e = there l (by-tcp m) a e
+  let-in (udp m) a e = skipped
+
+  bad-length : (m : Message) → at m 2 ≡ true → BadLength m
+  bad-length (rs232c l m area) e = ltb-true (length m) 6 e
+  bad-length (kjw l m area) e = eqb-false (length m) 24 (not-true (eqb (length m) 24) e)
+  bad-length (tcp l m area) e = ltb-true (length m) 13 e
+  bad-length (udp m) e = ltb-true (length m) 13 e
+
+  long : (m : Message) → at m 2 ≡ false → BadLength m → ⊥
+  long (rs232c l m area) e h = let k = ltb-false (length m) 6 e in omega arith
+  long (kjw l m area) e h = h (eqb-true (length m) 24 (not-false (eqb (length m) 24) e))
+  long (tcp l m area) e h = let k = ltb-false (length m) 13 e in omega arith
+  long (udp m) e h = let k = ltb-false (length m) 13 e in omega arith
+
+  -- a packet that is ours, and none of the panels is called
+  untargeted : (l : ℕ) (m area : List ℕ) → eqb (target (names b) (tcp l m area)) 0 ≡ true → (i : ℕ) → addressed (names b) (tcp l m area) i ≡ false
+  unfolding addressed
+  untargeted l m area e i = rw (eqb-true (target (names b) (tcp l m area)) 0 e) (ne-eqb 0 (suc i) (λ z. omega arith))
+
+  targeted : (l : ℕ) (m area : List ℕ) → ((i : ℕ) → addressed (names b) (tcp l m area) i ≡ false) → eqb (target (names b) (tcp l m area)) 0 ≡ true
+  unfolding addressed
+  targeted l m area = no-target (target (names b) (tcp l m area))
+
+  not-ours : (x : Message) (m : List ℕ) (none : Bool) → (none ≡ true → (i : ℕ) → addressed (names b) x i ≡ false) → (not (packetAsks.isOurs m) || none) ≡ true → NotOurs b x m
+  not-ours x m none f = go (packetAsks.isOurs m) refl
+    where
+      go : (o : Bool) → packetAsks.isOurs m ≡ o → (not o || none) ≡ true → NotOurs b x m
+      go true o e = to-nobody (f e)
+      go false o e = wrong-front o
+
+  ours : {x : Message} {m : List ℕ} (none : Bool) → (((i : ℕ) → addressed (names b) x i ≡ false) → none ≡ true) → (not (packetAsks.isOurs m) || none) ≡ false → NotOurs b x m → ⊥
+  ours {x} {m} none f e (wrong-front o) = false-true (sym (neither (not (packetAsks.isOurs m)) none e .0) ∙ ap not o)
+  ours {x} {m} none f e (to-nobody n) = false-true (sym (neither (not (packetAsks.isOurs m)) none e .1) ∙ f n)
+
+  foreign : (m : Message) → at m 3 ≡ true → Foreign b m
+  unfolding addressed
+  foreign (rs232c l m area) e = e
+  foreign (kjw l m area) e = not-true (frameAsks.isOurs m) e
+  foreign (tcp l m area) e = not-ours (tcp l m area) m (eqb (target (names b) (tcp l m area)) 0) (untargeted l m area) e
+  foreign (udp m) e = not-ours (udp m) m (not (anyCalled m (names b))) (λ n. uncalled m (names b) (not-true (anyCalled m (names b)) n)) e
+
+  for-us : (m : Message) → at m 3 ≡ false → Foreign b m → ⊥
+  unfolding addressed
+  for-us (rs232c l m area) e f = false-true (sym e ∙ f)
+  for-us (kjw l m area) e f = false-true (sym e ∙ ap not f)
+  for-us (tcp l m area) e f = ours (eqb (target (names b) (tcp l m area)) 0) (targeted l m area) e f
+  for-us (udp m) e f = ours (not (anyCalled m (names b))) (λ n. ap not (none-called m (names b) n)) e f
+
+  broken : (m : Message) → at m 4 ≡ true → Broken m
+  broken (rs232c l m area) e = e
+  broken (kjw l m area) e = false-true e
+  broken (tcp l m area) e = e
+  broken (udp m) e = e
+
+  whole : (m : Message) → at m 4 ≡ false → Broken m → ⊥
+  whole (rs232c l m area) e f = false-true (sym e ∙ f)
+  whole (kjw l m area) e f = f
+  whole (tcp l m area) e f = false-true (sym e ∙ f)
+  whole (udp m) e f = false-true (sym e ∙ f)
+
+  unclear : (m : Message) → at m 5 ≡ true → Unclear m
+  unclear (rs232c l m area) e = serial-unclear m e
+  unclear (kjw l m area) e = frame-unclear m e
+  unclear (tcp l m area) e = packet-unclear m e
+  unclear (udp m) e = packet-unclear m e
+
+  is-ours : (m : List ℕ) (none : Bool) → (not (packetAsks.isOurs m) || none) ≡ false → packetAsks.isOurs m ≡ true
+  is-ours m none e = not-false (packetAsks.isOurs m) (neither (not (packetAsks.isOurs m)) none e .0)
+
+  clear : (m : Message) → ((j : ℕ) → at m j ≡ false) → Clear m
+  clear (rs232c l m area) n = serial-clear m (n 2) (n 3) (n 4) (n 5)
+  clear (kjw l m area) n = frame-clear m (not-false (eqb (length m) 24) (n 2)) (not-false (frameAsks.isOurs m) (n 3)) (n 5)
+  clear (tcp l m area) n = packet-clear m (n 2) (is-ours m (eqb (target (names b) (tcp l m area)) 0) (n 3)) (n 4) (n 5)
+  clear (udp m) n = packet-clear m (n 2) (is-ours m (not (anyCalled m (names b))) (n 3)) (n 4) (n 5)
+
+  fired : (m : Message) (k : ℕ) → numberOf (step b m .answer) ≡ 1 + k → Fires (conditions b m) k
+  fired m k e = fires 1 (conditions b m) k (omega arith) (sym (checked b m) ∙ e)
+
+-- ---- each answer, of every box and every message
+
+module _ (b : DisplayBox) (m : Message) where
+  pub only-1 : numberOf (step b m .answer) ≡ 1 → Small m
+  only-1 e = small b m (fired b m 0 e .holds)
+
+  pub only-2 : numberOf (step b m .answer) ≡ 2 → NoPanel b m
+  only-2 e = let t = fired b m 1 e in no-panel-here b m (t .none-before 0 (omega arith)) (t .holds)
+
+  pub only-3 : numberOf (step b m .answer) ≡ 3 → LetIn b m × BadLength m
+  only-3 e = let t = fired b m 2 e in (let-in b m (t .none-before 0 (omega arith)) (t .none-before 1 (omega arith)), bad-length b m (t .holds))
+
+  pub only-4 : numberOf (step b m .answer) ≡ 4 → LetIn b m × (BadLength m → ⊥) × Foreign b m
+  only-4 e =
+      let t = fired b m 3 e in
+      let n = t .none-before in
+      (let-in b m (n 0 (omega arith)) (n 1 (omega arith)), long b m (n 2 (omega arith)), foreign b m (t .holds))
+
+  pub only-5 : numberOf (step b m .answer) ≡ 5 → LetIn b m × (BadLength m → ⊥) × (Foreign b m → ⊥) × Broken m
+  only-5 e =
+      let t = fired b m 4 e in
+      let n = t .none-before in
+      (let-in b m (n 0 (omega arith)) (n 1 (omega arith)), long b m (n 2 (omega arith)), for-us b m (n 3 (omega arith)), broken b m (t .holds))
+
+  pub only-6 : numberOf (step b m .answer) ≡ 6 → LetIn b m × (BadLength m → ⊥) × (Foreign b m → ⊥) × (Broken m → ⊥) × Unclear m
+  only-6 e =
+      let t = fired b m 5 e in
+      let n = t .none-before in
+      (let-in b m (n 0 (omega arith)) (n 1 (omega arith)), long b m (n 2 (omega arith)), for-us b m (n 3 (omega arith)), whole b m (n 4 (omega arith)), unclear b m (t .holds))
+
+  pub only-0 : numberOf (step b m .answer) ≡ 0 → LetIn b m × (BadLength m → ⊥) × (Foreign b m → ⊥) × (Broken m → ⊥) × Clear m
+  only-0 e =
+      let n = none 1 (conditions b m) (omega arith) (sym (checked b m) ∙ e) in
+      (let-in b m (n 0) (n 1), long b m (n 2), for-us b m (n 3), whole b m (n 4), clear b m n)
+
+-- ---- a configuration
+
+-- 7: "configuration breaks a rule of the first section": three bytes a panel, and the box asked for keeps the rules
+pub data BadlyAsked (c : List ℕ) : Type 0 where
+  odd-length : (length c % 3 ≡ 0 → ⊥) → BadlyAsked c
+  bad-box : valid (asked c) ≡ false → BadlyAsked c
+
+pub only-7 : (c : List ℕ) → numberOf (configured c .answer) ≡ 7 → BadlyAsked c
+unfolding configured
+only-7 c = go (eqb (length c % 3) 0) (valid (asked c)) refl refl
+  where
+    go : (t v : Bool) → eqb (length c % 3) 0 ≡ t → valid (asked c) ≡ v → numberOf (cond (t && v) (record { answer = Done; made = asked c }) refusal .answer) ≡ 7 → BadlyAsked c
+    go false v t v′ e = odd-length (eqb-false (length c % 3) 0 t)
+    go true false t v′ e = bad-box v′
+    go true true t v′ e = absurd (omega arith)
