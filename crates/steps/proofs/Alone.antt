@@ -78,7 +78,7 @@ struck-out b i ms h = demand-3 b i ms (kept i (names b) ms) h (sym (kept-kept i 
 -- ---- of configured boxes
 
 -- a configured box has eight places, whatever its panels
-eight-places : (c : List ℕ) → length (configured c .made .panels) ≡ 8
+pub eight-places : (c : List ℕ) → length (configured c .made .panels) ≡ 8
 unfolding configured asked
 eight-places c = choose (λ (r : Configured). length (r .made .panels) ≡ 8) (eqb (length c % 3) 0 && valid (asked c)) (record { answer = Done; made = asked c }) refusal (λ e. places-length 8 0 (askedAt c)) (λ e. refl)
 

@@ -1,5 +1,5 @@
 -- What was said to be done is kept: the panel that takes its turn keeps it by its protocol's own theorem, and the next question asks that panel.
-use Prim.Native.Nat.{ℕ, _+_, _<_, _≤_}
+use Prim.Native.Nat.{ℕ, _+_, _<_}
 use mathlib.Core.Path.{_≡_, ap, subst, _∙_}
 use mathlib.Core.Bool.{true, not}
 use mathlib.Core.List.{List}
@@ -8,7 +8,6 @@ use lib.Dec.{ltb}
 use lib.IntN.{ℤ, pos}
 use lib.ListN.{length, getD}
 use lib.Seq.{getD-set-same}
-use borrow.Author.Tests.{le-ltb}
 use Rattle.laws.proofs.Conditions.{passed}
 use Rattle.terms.specs.declared.Answer.the-variants.{Done, WrongLength, NotForUs}
 use Rattle.turns.specs.Turns.{Turn, taken}
@@ -28,38 +27,17 @@ use Rattle.vmc.proofs.Validity.{understood-fits}
 use Rattle.vmc.proofs.AskedBack.{set-told, shift-told, reset-told}
 use Rattle.sdcp_asks.specs.Asks.{isOurs, isBroken, inWords, dataOf, heardOf}
 use Rattle.sdcp.specs.Replies as packets
-use Rattle.sdcp_asks.specs.declared.Heard.{Heard}
 use Rattle.sdcp_asks.specs.declared.Heard.the-variants.{Refused, Broken, Understood}
 use Rattle.sdcp.specs.declared.Reply.the-variants.{Ok}
-use Rattle.steps.specs.Messages.{Message, tcp, udp, names}
+use Rattle.steps.specs.Messages.{Message, tcp, names}
 use Rattle.steps.specs.Addressing.{addressed}
 use Rattle.steps.specs.Step.{turn, backOn, panelAt, step}
 use Rattle.steps.specs.Run.{run}
 use Rattle.steps.proofs.Stays.{sets, spared, told-lasts}
 use Rattle.steps.proofs.Door.{by-tcp as on-link}
-use Rattle.steps.proofs.Turns.{Reaches, has-room, done-reaches, takes, goes-back}
-
--- ---- SDCP
-
--- a message that brings a packet: by TCP or by UDP
-pub data Brings (p : List ℕ) : Message → Type 0 where
-  by-tcp : (l : ℕ) (area : List ℕ) → Brings p (tcp l p area)
-  by-udp : Brings p (udp p)
-
--- what a panel does with an order that it understood, where there is room for the reply
-told-order : (room : ℕ) (p : List ℕ) (o : Order) (w : WRecord) → 512 ≤ room → heardOf p ≡ Understood o → taken room (packets.turnOf p) w ≡ record { after = carried o w; answer = Done; reply = packets.bytesOf p (Ok (saysOf o w)) }
-unfolding taken packets.turned
-told-order room p o w h e = rw (le-ltb room 512 h, e)
-
--- what is understood is carried out on the record of each panel that it comes to
-pub obeyed : {b : DisplayBox} {m : Message} {i : ℕ} (p : List ℕ) (o : Order) → Brings p m → heardOf p ≡ Understood o → Reaches b m i → panelAt i (step b m .box) .w ≡ carried o (panelAt i b .w)
-unfolding turn packets.turned
-obeyed {b} {m} {i} p o (by-tcp l area) e r =
-    ap (λ (x : Panel). x .w) (takes r)
-    ∙ ap (λ (t : Turn WRecord). t .after) (told-order (length area) p o (panelAt i b .w) (has-room (on-link p) r) e)
-obeyed {b} {m} {i} p o by-udp e r =
-    ap (λ (x : Panel). x .w) (takes r)
-    ∙ ap (λ (h : Heard). packets.turned p h (panelAt i b .w) .after) e
+use Rattle.steps.proofs.Turns.{Reaches, has-room, done-reaches, goes-back}
+use Rattle.steps.proofs.Obeyed.{Brings, told-order, obeyed}
+use Rattle.steps.proofs.Shapes.{Shaped, runFrom, shaped}
 
 -- a packet by TCP is answered 0, and its OK carries these words
 pub record Tells (b : DisplayBox) (l : ℕ) (p area words : List ℕ) : Type 0 where
@@ -90,39 +68,64 @@ heard-words p o e =
     go (UnderstoodWords o′) q = cc
     go NotUnderstoodWords q = absurd (let z : _≡_ {A = ℕ} 0 1 = cc in omega arith)
 
+-- a STATget of name k that comes to the panel next, or after any messages of which none that is addressed to it sets that name, brings these words
+abbrev pub ToldLater : DisplayBox → ℕ → ℕ → List ℕ → Type 0
+ToldLater b i k said =
+    (ms : List Message) → spared (λ (x : Message). sets x k) i b ms ≡ true
+    → (l : ℕ) (p area : List ℕ) → Reaches (run b ms) (tcp l p area) i → heardOf p ≡ Understood (Get k) → Tells (run b ms) l p area said
+
 -- a packet that was answered 0, and one of the panels that it is addressed to
 module _ (b : DisplayBox) (m : Message) (i : ℕ) (p : List ℕ) (c : Brings p m) (d : step b m .answer ≡ Done) (a : addressed (names b) m i ≡ true) where
-  -- a set stands in the record
-  pub set-kept : (k v : ℕ) → heardOf p ≡ Understood (Set k v) → length (panelAt i b .w .settings) ≡ 21 → getD (panelAt i (step b m .box) .w .settings) k 0 ≡ v
+  -- the record is that of the order
+  record-is : (o : Order) → heardOf p ≡ Understood o → panelAt i (step b m .box) .w ≡ carried o (panelAt i b .w)
+  record-is o e = ap (λ (x : Panel). x .w) (obeyed p o c e (done-reaches b m i d a))
+
+  set-kept : (k v : ℕ) → heardOf p ≡ Understood (Set k v) → length (panelAt i b .w .settings) ≡ 21 → getD (panelAt i (step b m .box) .w .settings) k 0 ≡ v
   unfolding carried
   set-kept k v e s =
       let h = understood-fits (dataOf p) (Set k v) (heard-words p (Set k v) e) .0 in
-      ap (λ (w : WRecord). getD (w .settings) k 0) (obeyed p (Set k v) c e (done-reaches b m i d a)) ∙ getD-set-same (panelAt i b .w .settings) k v 0 (omega arith)
+      ap (λ (w : WRecord). getD (w .settings) k 0) (record-is (Set k v) e) ∙ getD-set-same (panelAt i b .w .settings) k v 0 (omega arith)
 
-  -- what an order leaves to be told is told by a STATget that comes to the panel next, or after messages of which none that is addressed to it sets that name
-  told-later : (o : Order) (k : ℕ) (t : Says) → heardOf p ≡ Understood o → saysOf (Get k) (carried o (panelAt i b .w)) ≡ t → (ms : List Message) → spared (λ (x : Message). sets x k) i (step b m .box) ms ≡ true → (l : ℕ) (p′ area : List ℕ) → Reaches (run (step b m .box) ms) (tcp l p′ area) i → heardOf p′ ≡ Understood (Get k) → Tells (run (step b m .box) ms) l p′ area (textOf t)
-  told-later o k t e q ms n l p′ area r f =
-      let u = told-lasts k ms (step b m .box) i n ∙ ap (saysOf (Get k)) (obeyed p o c e (done-reaches b m i d a)) ∙ q in
-      subst (λ (x : Says). Tells (run (step b m .box) ms) l p′ area (textOf x)) u (asked (run (step b m .box) ms) i l k p′ area r f)
-
-  -- it is told, next or after any messages of which none that is addressed to the panel sets it
-  pub set-asked : (k v : ℕ) → heardOf p ≡ Understood (Set k v) → length (panelAt i b .w .settings) ≡ 21 → (ms : List Message) → spared (λ (x : Message). sets x k) i (step b m .box) ms ≡ true → (l : ℕ) (p′ area : List ℕ) → Reaches (run (step b m .box) ms) (tcp l p′ area) i → heardOf p′ ≡ Understood (Get k) → Tells (run (step b m .box) ms) l p′ area (setWords k v)
-  unfolding textOf
-  set-asked k v e s = told-later (Set k v) k (Value k v) e (set-told (dataOf p) k v (panelAt i b .w) (heard-words p (Set k v) e) s)
-
-  -- a shift stands in the record
-  pub shift-kept : (axis : ℕ) (z : ℤ) → heardOf p ≡ Understood (Shift axis z) → length (panelAt i b .w .shifts) ≡ 2 → getD (panelAt i (step b m .box) .w .shifts) axis (pos 0) ≡ z
+  shift-kept : (axis : ℕ) (z : ℤ) → heardOf p ≡ Understood (Shift axis z) → length (panelAt i b .w .shifts) ≡ 2 → getD (panelAt i (step b m .box) .w .shifts) axis (pos 0) ≡ z
   unfolding carried
   shift-kept axis z e s =
       let h = understood-fits (dataOf p) (Shift axis z) (heard-words p (Shift axis z) e) .0 in
-      ap (λ (w : WRecord). getD (w .shifts) axis (pos 0)) (obeyed p (Shift axis z) c e (done-reaches b m i d a)) ∙ getD-set-same (panelAt i b .w .shifts) axis z (pos 0) (omega arith)
+      ap (λ (w : WRecord). getD (w .shifts) axis (pos 0)) (record-is (Shift axis z) e) ∙ getD-set-same (panelAt i b .w .shifts) axis z (pos 0) (omega arith)
 
-  -- it is told, next or after any messages of which none that is addressed to the panel sets it
-  pub shift-asked : (axis : ℕ) (z : ℤ) → heardOf p ≡ Understood (Shift axis z) → length (panelAt i b .w .shifts) ≡ 2 → (ms : List Message) → spared (λ (x : Message). sets x (21 + axis)) i (step b m .box) ms ≡ true → (l : ℕ) (p′ area : List ℕ) → Reaches (run (step b m .box) ms) (tcp l p′ area) i → heardOf p′ ≡ Understood (Get (21 + axis)) → Tells (run (step b m .box) ms) l p′ area (moveWords (21 + axis) z)
-  unfolding textOf
-  shift-asked axis z e s = told-later (Shift axis z) (21 + axis) (Offset (21 + axis) z) e (shift-told (dataOf p) axis z (panelAt i b .w) (heard-words p (Shift axis z) e) s)
+  -- what an order leaves to be told is told later
+  told-later : (o : Order) (k : ℕ) (t : Says) → heardOf p ≡ Understood o → saysOf (Get k) (carried o (panelAt i b .w)) ≡ t → ToldLater (step b m .box) i k (textOf t)
+  told-later o k t e q ms n l p′ area r f =
+      let u = told-lasts k ms (step b m .box) i n ∙ ap (saysOf (Get k)) (record-is o e) ∙ q in
+      subst (λ (x : Says). Tells (run (step b m .box) ms) l p′ area (textOf x)) u (asked (run (step b m .box) ms) i l k p′ area r f)
 
-  -- "RESET (both shifts to 0, house)": 0 is told of either, next or after any messages of which none that is addressed to the panel sets it
-  pub reset-asked : (axis : ℕ) → heardOf p ≡ Understood Reset → axis < 2 → (ms : List Message) → spared (λ (x : Message). sets x (21 + axis)) i (step b m .box) ms ≡ true → (l : ℕ) (p′ area : List ℕ) → Reaches (run (step b m .box) ms) (tcp l p′ area) i → heardOf p′ ≡ Understood (Get (21 + axis)) → Tells (run (step b m .box) ms) l p′ area (moveWords (21 + axis) (pos 0))
+  -- "RESET (both shifts to 0, house)": 0 is told of either
+  pub reset-asked : (axis : ℕ) → heardOf p ≡ Understood Reset → axis < 2 → ToldLater (step b m .box) i (21 + axis) (moveWords (21 + axis) (pos 0))
   unfolding textOf
   reset-asked axis e h = told-later Reset (21 + axis) (Offset (21 + axis) (pos 0)) e (reset-told axis (panelAt i b .w) h)
+
+-- the same in every box that a configuration and messages lead to
+module _ (c : List ℕ) (before : List Message) (m : Message) (i : ℕ) (p : List ℕ) (br : Brings p m) (d : step (runFrom c before) m .answer ≡ Done) (a : addressed (names (runFrom c before)) m i ≡ true) where
+  arrays : Shaped (panelAt i (runFrom c before) .w)
+  arrays = shaped c before (done-reaches (runFrom c before) m i d a)
+
+  -- a set stands in the record
+  pub stands : (k v : ℕ) → heardOf p ≡ Understood (Set k v) → getD (panelAt i (step (runFrom c before) m .box) .w .settings) k 0 ≡ v
+  stands k v e = set-kept (runFrom c before) m i p br d a k v e (arrays .settings-21)
+
+  -- and is told
+  pub stands-asked : (k v : ℕ) → heardOf p ≡ Understood (Set k v) → ToldLater (step (runFrom c before) m .box) i k (setWords k v)
+  unfolding textOf
+  stands-asked k v e =
+      let told = set-told (dataOf p) k v (panelAt i (runFrom c before) .w) (heard-words p (Set k v) e) (arrays .settings-21) in
+      told-later (runFrom c before) m i p br d a (Set k v) k (Value k v) e told
+
+  -- a shift stands in the record
+  pub shift-stands : (axis : ℕ) (z : ℤ) → heardOf p ≡ Understood (Shift axis z) → getD (panelAt i (step (runFrom c before) m .box) .w .shifts) axis (pos 0) ≡ z
+  shift-stands axis z e = shift-kept (runFrom c before) m i p br d a axis z e (arrays .shifts-2)
+
+  -- and is told
+  pub shift-stands-asked : (axis : ℕ) (z : ℤ) → heardOf p ≡ Understood (Shift axis z) → ToldLater (step (runFrom c before) m .box) i (21 + axis) (moveWords (21 + axis) z)
+  unfolding textOf
+  shift-stands-asked axis z e =
+      let told = shift-told (dataOf p) axis z (panelAt i (runFrom c before) .w) (heard-words p (Shift axis z) e) (arrays .shifts-2) in
+      told-later (runFrom c before) m i p br d a (Shift axis z) (21 + axis) (Offset (21 + axis) z) e told

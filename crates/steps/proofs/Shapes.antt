@@ -1,7 +1,7 @@
--- The arrays of a W record keep their lengths through every run, so what was set stands in every box that a configuration and messages lead to.
+-- The arrays of a W record have their lengths in every box that a configuration and messages lead to: a configuration gives them, and no order changes them.
 use Prim.Native.Nat.{ℕ, zero, suc, _/_, _%_, _<_}
 use mathlib.Core.Path.{_≡_, refl, ap, _∙_}
-use mathlib.Core.Bool.{true, _&&_}
+use mathlib.Core.Bool.{_&&_}
 use mathlib.Core.List.{List, [], _∷_}
 use lib.Dec.{eqb, ltb}
 use native.Mathlib.Omega.{arith}
@@ -35,13 +35,12 @@ use Rattle.sdcp_asks.specs.Asks.{heardOf}
 use Rattle.sdcp.specs.Replies as packets
 use Rattle.sdcp_asks.specs.declared.Heard as packetHeard
 use Rattle.sdcp_asks.specs.declared.Heard.the-variants as packetIs
-use Rattle.sdcp_asks.specs.declared.Heard.the-variants.{Understood}
-use Rattle.steps.specs.Messages.{Message, rs232c, kjw, tcp, udp, names}
-use Rattle.steps.specs.Addressing.{addressed}
+use Rattle.steps.specs.Messages.{Message, rs232c, kjw, tcp, udp}
 use Rattle.steps.specs.Step.{turn, panelAt, step}
 use Rattle.steps.specs.Run.{run}
-use Rattle.steps.proofs.Turns.{either}
-use Rattle.steps.proofs.AskedBack.{Brings, set-kept}
+use Rattle.steps.proofs.Turns.{Reaches, reaches-inside, either}
+use Rattle.steps.proofs.Validity.{places-kept}
+use Rattle.steps.proofs.Alone.{eight-places}
 
 pub record Shaped (w : WRecord) : Type 0 where
   pub settings-21 : length (w .settings) ≡ 21
@@ -64,9 +63,9 @@ unfolding serialInputs.onAfter serialInputs.turnedOff
 on-keeps byte on e =
     let place = serialInputs.placeOf (connectorOf byte) in
     let P : List ℕ → Type 0 = λ (l : List ℕ). length l ≡ 10 in
-    choose (λ (l : List ℕ). length l ≡ 10) (eqb (actOf byte) 1) _ _
-    (λ f. choose (λ (l : List ℕ). length l ≡ 10) (every (eqb 0) (set on place 0)) on (set on place 0) (λ g. e) (λ g. length-set on place 0 ∙ e))
-    (λ f. choose (λ (l : List ℕ). length l ≡ 10) (eqb (actOf byte) 2) (set on place 1) _ (λ g. length-set on place 1 ∙ e) (λ g. refl))
+    choose P (eqb (actOf byte) 1) _ _
+    (λ f. choose P (every (eqb 0) (set on place 0)) on (set on place 0) (λ g. e) (λ g. length-set on place 0 ∙ e))
+    (λ f. choose P (eqb (actOf byte) 2) (set on place 1) _ (λ g. length-set on place 1 ∙ e) (λ g. refl))
 
 puts-length : {A : Type 0} (f : ℕ → A) (ss : List serialLevels.Say) (l : List A) → length (serialLevels.puts f ss l) ≡ length l
 puts-length f ss [] = refl
@@ -150,10 +149,16 @@ configured-shaped c i h = choose (λ (r : Configured). Shaped (panelAt i (r .mad
     none (suc (suc (suc (suc (suc (suc (suc zero))))))) h = zero-shaped
     none (suc (suc (suc (suc (suc (suc (suc (suc i)))))))) h = absurd (omega arith)
 
--- in every box that a configuration and messages lead to
-pub shaped : (c : List ℕ) (ms : List Message) (i : ℕ) → i < 8 → Shaped (panelAt i (run (configured c .made) ms) .w)
-shaped c ms i h = run-shaped ms (configured c .made) i (configured-shaped c i h)
+-- the box that a configuration and messages lead to
+abbrev pub runFrom : List ℕ → List Message → DisplayBox
+runFrom c ms = run (configured c .made) ms
 
--- a set that is answered 0 stands in the record of each panel that it is addressed to
-pub stands : (c : List ℕ) (ms : List Message) (m : Message) (i k v : ℕ) (p : List ℕ) → i < 8 → Brings p m → step (run (configured c .made) ms) m .answer ≡ Done → addressed (names (run (configured c .made) ms)) m i ≡ true → heardOf p ≡ Understood (Set k v) → getD (panelAt i (step (run (configured c .made) ms) m .box) .w .settings) k 0 ≡ v
-stands c ms m i k v p h b d a e = set-kept (run (configured c .made) ms) m i p b d a k v e (shaped c ms i h .settings-21)
+run-places : (ms : List Message) (b : DisplayBox) → length (run b ms .panels) ≡ length (b .panels)
+run-places [] b = refl
+run-places (m ∷ ms) b = run-places ms (step b m .box) ∙ places-kept b m
+
+-- in every such box a panel that a message comes to has its arrays
+pub shaped : (c : List ℕ) (ms : List Message) {m : Message} {i : ℕ} → Reaches (runFrom c ms) m i → Shaped (panelAt i (runFrom c ms) .w)
+shaped c ms {m} {i} r =
+    let h = reaches-inside r in
+    run-shaped ms (configured c .made) i (configured-shaped c i (omega (arith, run-places ms (configured c .made), eight-places c)))
