@@ -27,7 +27,7 @@ use Rattle.rs232c_asks.specs.declared.Order.{Order}
 use Rattle.rs232c_asks.specs.declared.Order.the-variants.{Config, Select, Levels, Sense, Remote}
 use Rattle.rs232c_asks.specs.declared.Heard.the-variants.{Understood}
 use Rattle.rs232c_tells.specs.declared.Reply.the-variants.{State, Balances}
-use Rattle.rs232c.proofs.Codes.{select-good}
+use Rattle.rs232c_asks.proofs.Known.{understood-known}
 use Rattle.rs232c_levels.proofs.Decode.{puts-at}
 use Rattle.rs232c_inputs.proofs.Switches.{place-good, act-good, off-other, off-done, off-last}
 
@@ -224,7 +224,7 @@ selected byte i l g = record {
 -- 22h answered 0: its connector is as ordered, but for OFF where all others are OFF
 pub select-kept : (room s byte : ℕ) (m : List ℕ) (w : WRecord) → length (w .inputs .on) ≡ 10 → taken room (turnOf m) w .answer ≡ Done → heardOf m ≡ Understood s (Select byte) → Selected byte (w .inputs) (taken room (turnOf m) w .after .inputs)
 unfolding carried
-select-kept room s byte m w l d e = rw (done room s (Select byte) m w d e) (selected byte (w .inputs) l (select-good m s byte e))
+select-kept room s byte m w l d e = rw (done room s (Select byte) m w d e) (selected byte (w .inputs) l (understood-known m s (Select byte) e .2))
 
 -- ---- it stays
 

@@ -9,7 +9,7 @@ use Rattle.sums.specs.Sums.{sumOf}
 use Rattle.terms.specs.declared.Answer.the-variants.{EnvelopeWrong, NotUnderstood, AreaTooSmall}
 use Rattle.turns.specs.Turns.{taken}
 use Rattle.panels.specs.Records.{startW}
-use Rattle.rs232c_asks.specs.Asks.{isForeign, isBroken, configCommand, selectCommand, levelsCommand, senseCommand, commandOf, heardOf}
+use Rattle.rs232c_asks.specs.Asks.{isForeign, isBroken, configCommand, selectCommand, levelsCommand, senseCommand, remoteCommand, commandOf, heardOf}
 use Rattle.rs232c_inputs.specs.Inputs.{placeOf, usedAfter, presetAfter, turnedOff, onAfter}
 use Rattle.rs232c_levels.specs.Levels.{decode, balancedBy}
 use Rattle.rs232c.specs.Orders.{carried}
@@ -19,7 +19,7 @@ use Rattle.rs232c.specs.Replies.{turned, turnOf}
 
 -- * `02 03 01 41 6E 4D` at start: `02 04 41 01 7E 01 3B`
 remote : taken 512 (turnOf (0x02 ∷ 0x03 ∷ 0x01 ∷ 0x41 ∷ 0x6e ∷ 0x4d ∷ [])) startW .reply ≡ 0x02 ∷ 0x04 ∷ 0x41 ∷ 0x01 ∷ 0x7e ∷ 0x01 ∷ 0x3b ∷ []
-unfolding taken heardOf isForeign isBroken sumOf commandOf turned replyTo bytesOf frameOf
+unfolding taken heardOf isForeign isBroken sumOf commandOf remoteCommand turned replyTo bytesOf frameOf
 remote = refl
 
 -- * `02 08 01 41 40 21 FF 0F 00 04 43`: R gain 4095, B bias -1024, `02 03 41 01 04 B7`

@@ -1,6 +1,5 @@
 pub mod AskedBack
 mod Bits
-mod Codes
 pub mod Determined
 mod Examples
 pub mod Validity

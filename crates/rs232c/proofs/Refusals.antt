@@ -1,13 +1,14 @@
 -- Every answer but 0 leaves the record, byte counts 0, 1 and 2 never pass, and what the document refuses is refused: by the cases of what a message asks.
-use mathlib.Core.Path.{_≡_, refl}
+use mathlib.Core.Path.{_≡_, refl, sym}
 use mathlib.Core.Bool.{Bool, true, false, cond, not, _||_, or-true, and-false}
-use mathlib.Core.List.{List}
+use mathlib.Core.List.{List, [], _∷_}
 use Prim.Native.Nat.{ℕ, _+_, _<_, _≤_}
 use native.Mathlib.Omega.{arith}
 use lib.ListN.{length, getD}
 use lib.Dec.{eqb, ltb}
 use borrow.Author.Tests.{lt-ltb, le-ltb, ne-eqb}
 use Rattle.laws.specs.Lists.{listed}
+use Rattle.laws.proofs.Conditions.{false-true}
 use Rattle.terms.specs.Answers.{numberOf}
 use Rattle.terms.specs.declared.Answer.the-variants.{WrongLength, NotForUs, EnvelopeWrong}
 use Rattle.turns.specs.Turns.{taken}
@@ -15,7 +16,7 @@ use Rattle.turns.proofs.Turns.{refusal-leaves as leaves}
 use Rattle.panels.specs.Records.{connectors, presets}
 use Rattle.panels.specs.declared.WRecord.{WRecord}
 use Rattle.rs232c_asks.specs.Commands.{connectorMarked, presetMarked, connectorOf, presetOf, actOf, connectorGood, presetGood, configGood, selectGood}
-use Rattle.rs232c_asks.specs.Asks.{isForeign, isBroken, configCommand, selectCommand, heardOf, valuesOf}
+use Rattle.rs232c_asks.specs.Asks.{countOf, destinationOf, sourceOf, first, second, isForeign, isBroken, configCommand, selectCommand, commandOf, heardOf, valuesOf}
 use Rattle.rs232c_tells.specs.Texts.{bytesOf}
 use Rattle.rs232c.specs.Replies.{turned, turnOf}
 use Rattle.rs232c_asks.specs.declared.Heard.{Heard}
@@ -34,14 +35,14 @@ pub refusal-leaves : (room : ℕ) (m : List ℕ) (w : WRecord) → (numberOf (ta
 refusal-leaves room m w = leaves room (turnOf m) w (turn-leaves (heardOf m) (valuesOf m) w)
 
 -- "So counts 0, 1 and 2 never pass."
-pub small-counts-broken : (m : List ℕ) → 6 ≤ length m → isForeign m ≡ false → getD m 1 0 < 3 → heardOf m ≡ Broken (getD m 3 0)
+pub small-counts-broken : (m : List ℕ) → 6 ≤ length m → isForeign m ≡ false → countOf m < 3 → heardOf m ≡ Broken (sourceOf m)
 unfolding heardOf isBroken
 small-counts-broken m h f k =
-    let n : getD m 1 0 + 3 ≡ length m → ⊥ = λ e. omega arith in
-    rw (le-ltb (length m) 6 h, f, ne-eqb (getD m 1 0 + 3) (length m) n)
+    let n : countOf m + 3 ≡ length m → ⊥ = λ e. omega arith in
+    rw (le-ltb (length m) 6 h, f, ne-eqb (countOf m + 3) (length m) n)
 
 -- the same at the door, with room for a reply: the record is left, the answer is 5 and NAK goes to the source
-pub small-counts-told : (room : ℕ) (m : List ℕ) (w : WRecord) → 512 ≤ room → 6 ≤ length m → isForeign m ≡ false → getD m 1 0 < 3 → taken room (turnOf m) w ≡ record { after = w; answer = EnvelopeWrong; reply = bytesOf (Nak (getD m 3 0)) }
+pub small-counts-told : (room : ℕ) (m : List ℕ) (w : WRecord) → 512 ≤ room → 6 ≤ length m → isForeign m ≡ false → countOf m < 3 → taken room (turnOf m) w ≡ record { after = w; answer = EnvelopeWrong; reply = bytesOf (Nak (sourceOf m)) }
 unfolding taken turned
 small-counts-told room m w r h f k = rw (le-ltb room 512 r, small-counts-broken m h f k)
 
@@ -59,37 +60,49 @@ pub first-foreign : (m : List ℕ) → (getD m 0 0 ≡ 2 → ⊥) → isForeign 
 unfolding isForeign
 first-foreign m n = rw (ne-eqb (getD m 0 0) 2 n)
 
-pub destination-foreign : (m : List ℕ) → (getD m 2 0 ≡ 1 → ⊥) → isForeign m ≡ true
+pub destination-foreign : (m : List ℕ) → (destinationOf m ≡ 1 → ⊥) → isForeign m ≡ true
 unfolding isForeign
-destination-foreign m n = rw (ne-eqb (getD m 2 0) 1 n, or-true (not (eqb (getD m 0 0) 2)))
+destination-foreign m n = rw (ne-eqb (destinationOf m) 1 n, or-true (not (eqb (getD m 0 0) 2)))
 
-pub low-source-foreign : (m : List ℕ) → getD m 3 0 < 0x41 → isForeign m ≡ true
+pub low-source-foreign : (m : List ℕ) → sourceOf m < 0x41 → isForeign m ≡ true
 unfolding isForeign
-low-source-foreign m h = rw (lt-ltb (getD m 3 0) 0x41 h, or-true (not (eqb (getD m 0 0) 2) || not (eqb (getD m 2 0) 1)))
+low-source-foreign m h = rw (lt-ltb (sourceOf m) 0x41 h, or-true (not (eqb (getD m 0 0) 2) || not (eqb (destinationOf m) 1)))
 
-pub high-source-foreign : (m : List ℕ) → 0x7f < getD m 3 0 → isForeign m ≡ true
+pub high-source-foreign : (m : List ℕ) → 0x7f < sourceOf m → isForeign m ≡ true
 unfolding isForeign
-high-source-foreign m h = rw (lt-ltb 0x7f (getD m 3 0) h) (or-true (not (eqb (getD m 0 0) 2) || not (eqb (getD m 2 0) 1) || ltb (getD m 3 0) 0x41))
+high-source-foreign m h = rw (lt-ltb 0x7f (sourceOf m) h) (or-true (not (eqb (getD m 0 0) 2) || not (eqb (destinationOf m) 1) || ltb (sourceOf m) 0x41))
 
--- what is refused either way is refused
-either-way : {A : Type 0} (b : Bool) (x : A) → cond b x x ≡ x
-either-way true x = refl
-either-way false x = refl
+-- "any other code [..]: 6"
+pub other-code : (source code : ℕ) (bytes : List ℕ) → listed (0x21 ∷ 0x22 ∷ 0x40 ∷ 0x61 ∷ 0x6e ∷ []) code ≡ false → commandOf source code bytes ≡ NotUnderstood source
+unfolding commandOf
+other-code source code bytes = rungs (eqb code 0x21) (eqb code 0x22) (eqb code 0x40) (eqb code 0x61) (eqb code 0x6e) _ _ _ _ _ (NotUnderstood source)
+  where
+    rungs : (a b c d e : Bool) (p q r s t u : Heard) → (a || (b || (c || (d || (e || false))))) ≡ false → cond a p (cond b q (cond c r (cond d s (cond e t u)))) ≡ u
+    rungs true b c d e p q r s t u n = absurd (false-true (sym n))
+    rungs false true c d e p q r s t u n = absurd (false-true (sym n))
+    rungs false false true d e p q r s t u n = absurd (false-true (sym n))
+    rungs false false false true e p q r s t u n = absurd (false-true (sym n))
+    rungs false false false false true p q r s t u n = absurd (false-true (sym n))
+    rungs false false false false false p q r s t u n = refl
 
 -- "A marked code not listed: 6."
-pub connector-unlisted : (source n marks byte : ℕ) → connectorMarked marks ≡ true → listed connectors (connectorOf byte) ≡ false → configCommand source n marks byte ≡ NotUnderstood source
+pub connector-unlisted : (source : ℕ) (bytes : List ℕ) → connectorMarked (first bytes) ≡ true → listed connectors (connectorOf (second bytes)) ≡ false → configCommand source bytes ≡ NotUnderstood source
 unfolding configCommand configGood connectorGood
-connector-unlisted source n marks byte m u = rw (m, u) (either-way (not (eqb n 2)) (NotUnderstood source))
+connector-unlisted source bytes m u = rw (m, u, and-false (eqb (length bytes) 2))
 
-pub preset-unlisted : (source n marks byte : ℕ) → presetMarked marks ≡ true → listed presets (presetOf byte) ≡ false → configCommand source n marks byte ≡ NotUnderstood source
+pub preset-unlisted : (source : ℕ) (bytes : List ℕ) → presetMarked (first bytes) ≡ true → listed presets (presetOf (second bytes)) ≡ false → configCommand source bytes ≡ NotUnderstood source
 unfolding configCommand configGood presetGood
-preset-unlisted source n marks byte m u = rw (m, u, and-false (connectorGood marks byte)) (either-way (not (eqb n 2)) (NotUnderstood source))
+preset-unlisted source bytes m u = rw (m, u, and-false (connectorGood (first bytes) (second bytes)), and-false (eqb (length bytes) 2))
 
 -- "Act 0, or an unlisted connector with act 1 or 2: 6."
-pub act-zero : (source n byte : ℕ) → actOf byte ≡ 0 → selectCommand source n byte ≡ NotUnderstood source
+pub act-zero : (source : ℕ) (bytes : List ℕ) → actOf (first bytes) ≡ 0 → selectCommand source bytes ≡ NotUnderstood source
 unfolding selectCommand selectGood
-act-zero source n byte a = rw a (either-way (not (eqb n 1)) (NotUnderstood source))
+act-zero source bytes a = rw (a, and-false (eqb (length bytes) 1))
 
-pub unlisted-not-selected : (source n byte : ℕ) → (actOf byte ≡ 3 → ⊥) → listed connectors (connectorOf byte) ≡ false → selectCommand source n byte ≡ NotUnderstood source
+pub unlisted-not-selected : (source : ℕ) (bytes : List ℕ) → (actOf (first bytes) ≡ 3 → ⊥) → listed connectors (connectorOf (first bytes)) ≡ false → selectCommand source bytes ≡ NotUnderstood source
 unfolding selectCommand selectGood
-unlisted-not-selected source n byte a u = rw (ne-eqb (actOf byte) 3 a, u, either-way (eqb (actOf byte) 0) false) (either-way (not (eqb n 1)) (NotUnderstood source))
+unlisted-not-selected source bytes a u = rw (ne-eqb (actOf (first bytes)) 3 a, u, either-way (eqb (actOf (first bytes)) 0) false, and-false (eqb (length bytes) 1))
+  where
+    either-way : (b : Bool) (x : Bool) → cond b x x ≡ x
+    either-way true x = refl
+    either-way false x = refl

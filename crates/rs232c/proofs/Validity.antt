@@ -1,16 +1,15 @@
 -- A valid record stays valid: what an understood order puts into the record is in its range.
 use mathlib.Core.Path.{_≡_, refl}
-use mathlib.Core.Bool.{Bool, true, false, not, cond, _&&_}
+use mathlib.Core.Bool.{Bool, true, false, cond, _&&_}
 use mathlib.Core.List.{List, [], _∷_}
-use Prim.Native.Nat.{ℕ, zero, suc, _+_, _-_, _*_, _%_, _≤_}
+use Prim.Native.Nat.{ℕ, zero, suc, _-_, _%_, _≤_}
 use native.Mathlib.Omega.{arith}
-use lib.Count.{ones}
 use lib.Dec.{eqb, ltb, leb, lit≤}
 use lib.IntN.{pos, negsuc}
 use lib.ListN.{length, getD, set, replicate, take, drop}
-use borrow.Author.Tests.{le-leb, ltb-true, ltb-false, not-false}
+use borrow.Author.Tests.{le-leb, ltb-true, ltb-false}
 use Rattle.laws.specs.Lists.{every, listed, within}
-use Rattle.laws.proofs.Conditions.{and-first, and-second, and-both, choose}
+use Rattle.laws.proofs.Conditions.{and-first, and-second, and-both}
 use Rattle.laws.proofs.Lists.{within-set}
 use Rattle.turns.specs.Turns.{Turn, taken}
 use Rattle.turns.proofs.Turns.{either}
@@ -20,12 +19,12 @@ use Rattle.panels.proofs.Ranges.{InRange, parts, whole}
 use Rattle.panels.specs.declared.Inputs.{Inputs}
 use Rattle.panels.specs.declared.Balance.{Balance}
 use Rattle.panels.specs.declared.WRecord.{WRecord}
-use Rattle.terms.specs.declared.Answer.the-variants.{WrongLength, NotForUs}
-use Rattle.rs232c_asks.specs.Asks.{isForeign, isBroken, configCommand, selectCommand, levelsCommand, senseCommand, commandOf, heardOf, valuesOf}
+use Rattle.rs232c_asks.specs.Asks.{codeOf, dataOf, heardOf, valuesOf}
+use Rattle.rs232c_asks.proofs.Known.{Known, heard-known}
 use Rattle.rs232c_levels.specs.Levels.{Say, silent, say, gainOf, biasOf, puts, decode, balancedBy}
 use Rattle.rs232c.specs.Orders.{carried}
 use Rattle.rs232c_inputs.specs.Inputs.{placeOf, usedAfter, presetAfter, configuredBy, turnedOff, onAfter, selectedBy}
-use Rattle.rs232c_asks.specs.Commands.{connectorMarked, presetMarked, connectorOf, presetOf, connectorGood, presetGood, configGood, selectGood, actOf}
+use Rattle.rs232c_asks.specs.Commands.{connectorMarked, presetMarked, connectorOf, presetOf, connectorGood, presetGood, configGood, actOf}
 use Rattle.rs232c.specs.Replies.{turned, turnOf}
 use Rattle.rs232c_asks.specs.declared.Order.{Order}
 use Rattle.rs232c_asks.specs.declared.Order.the-variants.{Config, Select, Levels, Sense, Remote}
@@ -91,14 +90,6 @@ bias-ok v = go (ltb (v % 2048) 1024) refl
 
 -- ---- the record
 
--- what is known of an order that was understood
-abbrev Good : Order → Type 0
-Good (Config marks byte) = configGood marks byte ≡ true
-Good (Select byte) = Unit {0}
-Good (Levels mask) = Unit {0}
-Good (Sense which) = Unit {0}
-Good Remote = Unit {0}
-
 config-ok : (marks byte : ℕ) (i : Inputs) → configGood marks byte ≡ true → okInputs i ≡ true → okInputs (configuredBy marks byte i) ≡ true
 unfolding configGood okInputs
 config-ok marks byte i g e =
@@ -123,70 +114,23 @@ levels-ok mask vs b e =
     (puts-kept gainOf okGain (take 3 (decode 6 mask vs)) (b .gains) gain-ok (and-first (every okGain (b .gains)) (every okBias (b .biases)) e))
     (puts-kept biasOf okBias (drop 3 (decode 6 mask vs)) (b .biases) bias-ok (and-second (every okGain (b .gains)) (every okBias (b .biases)) e))
 
-carried-ok : (o : Order) (vs : List ℕ) (w : WRecord) → Good o → InRange w → InRange (carried o vs w)
+carried-ok : (code : ℕ) (bytes : List ℕ) (s : ℕ) (o : Order) (vs : List ℕ) (w : WRecord) → Known code bytes (Understood s o) → InRange w → InRange (carried o vs w)
 unfolding carried
-carried-ok (Config marks byte) vs w g r = record { settings-ok = r .settings-ok; shifts-ok = r .shifts-ok; inputs-ok = config-ok marks byte (w .inputs) g (r .inputs-ok); balance-ok = r .balance-ok }
-carried-ok (Select byte) vs w g r = record { settings-ok = r .settings-ok; shifts-ok = r .shifts-ok; inputs-ok = select-ok byte (w .inputs) (r .inputs-ok); balance-ok = r .balance-ok }
-carried-ok (Levels mask) vs w g r = record { settings-ok = r .settings-ok; shifts-ok = r .shifts-ok; inputs-ok = r .inputs-ok; balance-ok = levels-ok mask vs (w .balance) (r .balance-ok) }
-carried-ok (Sense which) vs w g r = r
-carried-ok Remote vs w g r = r
+carried-ok code bytes s (Config marks byte) vs w k r = record { settings-ok = r .settings-ok; shifts-ok = r .shifts-ok; inputs-ok = config-ok marks byte (w .inputs) (k .2) (r .inputs-ok); balance-ok = r .balance-ok }
+carried-ok code bytes s (Select byte) vs w k r = record { settings-ok = r .settings-ok; shifts-ok = r .shifts-ok; inputs-ok = select-ok byte (w .inputs) (r .inputs-ok); balance-ok = r .balance-ok }
+carried-ok code bytes s (Levels mask) vs w k r = record { settings-ok = r .settings-ok; shifts-ok = r .shifts-ok; inputs-ok = r .inputs-ok; balance-ok = levels-ok mask vs (w .balance) (r .balance-ok) }
+carried-ok code bytes s (Sense which) vs w k r = r
+carried-ok code bytes s Remote vs w k r = r
 
--- ---- what is heard
-
-abbrev GoodHeard : Heard → Type 0
-GoodHeard (Refused a) = Unit {0}
-GoodHeard (Broken s) = Unit {0}
-GoodHeard (NotUnderstood s) = Unit {0}
-GoodHeard (Understood s o) = Good o
-
-config-heard : (s n a b : ℕ) → GoodHeard (configCommand s n a b)
-unfolding configCommand
-config-heard s n a b =
-    choose GoodHeard (not (eqb n 2)) (NotUnderstood s) _ (λ e. tt) (λ e.
-    choose GoodHeard (not (configGood a b)) (NotUnderstood s) (Understood s (Config a b)) (λ f. tt) (λ f. not-false (configGood a b) f))
-
-select-heard : (s n a : ℕ) → GoodHeard (selectCommand s n a)
-unfolding selectCommand
-select-heard s n a =
-    choose GoodHeard (not (eqb n 1)) (NotUnderstood s) _ (λ e. tt) (λ e. choose GoodHeard (not (selectGood a)) (NotUnderstood s) (Understood s (Select a)) (λ f. tt) (λ f. tt))
-
-levels-heard : (s n a : ℕ) → GoodHeard (levelsCommand s n a)
-unfolding levelsCommand
-levels-heard s n a = choose GoodHeard (not (eqb n (1 + 2 * ones (a % 64)))) (NotUnderstood s) (Understood s (Levels a)) (λ e. tt) (λ e. tt)
-
-sense-heard : (s n a : ℕ) → GoodHeard (senseCommand s n a)
-unfolding senseCommand
-sense-heard s n a =
-    choose GoodHeard (not (eqb n 1)) (NotUnderstood s) _ (λ e. tt) (λ e.
-    choose GoodHeard (eqb a 1) (Understood s (Sense a)) _ (λ f. tt) (λ f. choose GoodHeard (eqb a 2) (Understood s (Sense a)) (NotUnderstood s) (λ g. tt) (λ g. tt)))
-
-command-heard : (s code n a b : ℕ) → GoodHeard (commandOf s code n a b)
-unfolding commandOf
-command-heard s code n a b =
-    choose GoodHeard (eqb code 0x21) (configCommand s n a b) _ (λ e. config-heard s n a b) (λ e.
-    choose GoodHeard (eqb code 0x22) (selectCommand s n a) _ (λ f. select-heard s n a) (λ f.
-    choose GoodHeard (eqb code 0x40) (levelsCommand s n a) _ (λ g. levels-heard s n a) (λ g.
-    choose GoodHeard (eqb code 0x61) (senseCommand s n a) _ (λ h. sense-heard s n a) (λ h.
-    choose GoodHeard (not (eqb code 0x6e)) (NotUnderstood s) _ (λ i. tt) (λ i.
-    choose GoodHeard (not (eqb n 0)) (NotUnderstood s) (Understood s Remote) (λ j. tt) (λ j. tt))))))
-
-heard-good : (m : List ℕ) → GoodHeard (heardOf m)
-unfolding heardOf
-heard-good m =
-    choose GoodHeard (ltb (length m) 6) (Refused WrongLength) _ (λ e. tt) (λ e.
-    choose GoodHeard (isForeign m) (Refused NotForUs) _ (λ f. tt) (λ f.
-    choose GoodHeard (isBroken m) (Broken (getD m 3 0)) _ (λ g. tt) (λ g.
-    command-heard (getD m 3 0) (getD m 4 0) (length m - 6) (getD m 5 0) (getD m 6 0))))
-
-turned-ok : (h : Heard) (vs : List ℕ) (w : WRecord) → GoodHeard h → InRange w → InRange (turned h vs w .after)
+turned-ok : (code : ℕ) (bytes : List ℕ) (h : Heard) (vs : List ℕ) (w : WRecord) → Known code bytes h → InRange w → InRange (turned h vs w .after)
 unfolding turned
-turned-ok (Refused a) vs w g r = r
-turned-ok (Broken s) vs w g r = r
-turned-ok (NotUnderstood s) vs w g r = r
-turned-ok (Understood s o) vs w g r = carried-ok o vs w g r
+turned-ok code bytes (Refused a) vs w k r = r
+turned-ok code bytes (Broken s) vs w k r = r
+turned-ok code bytes (NotUnderstood s) vs w k r = r
+turned-ok code bytes (Understood s o) vs w k r = carried-ok code bytes s o vs w k r
 
 -- a valid record stays valid, whatever the message and the area
 pub stays-valid : (room : ℕ) (m : List ℕ) (w : WRecord) → okW w ≡ true → okW (taken room (turnOf m) w .after) ≡ true
 stays-valid room m w e =
     either (λ (t : Turn WRecord). okW (t .after) ≡ true) room (turnOf m) w e
-    (whole (turnOf m w .after) (turned-ok (heardOf m) (valuesOf m) w (heard-good m) (parts w e)))
+    (whole (turnOf m w .after) (turned-ok (codeOf m) (dataOf m) (heardOf m) (valuesOf m) w (heard-known m) (parts w e)))

@@ -10,7 +10,7 @@ ghost use Prim.Native.Nat.{_≤_};
 ghost use lib.ListN.{length};
 ghost use Rattle.laws.specs.Lists.{listed};
 ghost use Rattle.panels.specs.Records.{connectors, presets};
-ghost use Rattle.rs232c_asks.specs.Asks.{isForeign, isBroken, configCommand, selectCommand, levelsCommand, senseCommand, commandOf, heardOf};
+ghost use Rattle.rs232c_asks.specs.Asks.{isForeign, isBroken, configCommand, selectCommand, levelsCommand, senseCommand, remoteCommand, commandOf, heardOf};
 ghost use Rattle.rs232c_asks.specs.Commands.{connectorGood, presetGood, configGood, selectGood};
 use octets::ones_of;
 
@@ -130,78 +130,89 @@ fn select_good(byte: u8) -> bool
     is_connector(byte % 16)
 }
 
-// The command, by its code and its number of data bytes.
-fn command_of(source: u8, code: u8, n: usize, first: u8, second: u8) -> Heard
-    ensures { λ r. ⌜ r ≡ commandOf source code n first second ⌝ }
+// The command, by its code and its data bytes.
+fn command_of(source: u8, code: u8, bytes: &[u8]) -> Heard
+    ensures { λ r. ⌜ r ≡ commandOf source code (now (bytes .entry)) ⌝ }
 {
     if code == 0x21 {
-        return config_command(source, n, first, second);
+        return config_command(source, bytes);
     }
     if code == 0x22 {
-        return select_command(source, n, first);
+        return select_command(source, bytes);
     }
     if code == 0x40 {
-        return levels_command(source, n, first);
+        return levels_command(source, bytes);
     }
     if code == 0x61 {
-        return sense_command(source, n, first);
+        return sense_command(source, bytes);
     }
-    if code != 0x6E {
-        return Heard::NotUnderstood(source);
+    if code == 0x6E {
+        return remote_command(source, bytes);
     }
-    if n != 0 {
-        return Heard::NotUnderstood(source);
-    }
-    Heard::Understood(source, Order::Remote)
+    Heard::NotUnderstood(source)
 }
 
-fn config_command(source: u8, n: usize, first: u8, second: u8) -> Heard
-    ensures { λ r. ⌜ r ≡ configCommand source n first second ⌝ }
+fn config_command(source: u8, bytes: &[u8]) -> Heard
+    ensures { λ r. ⌜ r ≡ configCommand source (now (bytes .entry)) ⌝ }
 {
-    if n != 2 {
+    if bytes.len() != 2 {
         return Heard::NotUnderstood(source);
     }
-    if !config_good(first, second) {
+    let marks = byte_at(bytes, 0);
+    let byte = byte_at(bytes, 1);
+    if !config_good(marks, byte) {
         return Heard::NotUnderstood(source);
     }
-    Heard::Understood(source, Order::Config(first, second))
+    Heard::Understood(source, Order::Config(marks, byte))
 }
 
-fn select_command(source: u8, n: usize, first: u8) -> Heard
-    ensures { λ r. ⌜ r ≡ selectCommand source n first ⌝ }
+fn select_command(source: u8, bytes: &[u8]) -> Heard
+    ensures { λ r. ⌜ r ≡ selectCommand source (now (bytes .entry)) ⌝ }
 {
-    if n != 1 {
+    if bytes.len() != 1 {
         return Heard::NotUnderstood(source);
     }
-    if !select_good(first) {
+    let byte = byte_at(bytes, 0);
+    if !select_good(byte) {
         return Heard::NotUnderstood(source);
     }
-    Heard::Understood(source, Order::Select(first))
+    Heard::Understood(source, Order::Select(byte))
 }
 
 // The count of ones in the mask fixes the number of data bytes, before anything is applied.
-fn levels_command(source: u8, n: usize, first: u8) -> Heard
-    ensures { λ r. ⌜ r ≡ levelsCommand source n first ⌝ }
+fn levels_command(source: u8, bytes: &[u8]) -> Heard
+    ensures { λ r. ⌜ r ≡ levelsCommand source (now (bytes .entry)) ⌝ }
 {
-    if n != 1 + 2 * ones_of(first % 64) {
+    let mask = byte_at(bytes, 0);
+    if bytes.len() != 1 + 2 * ones_of(mask % 64) {
         return Heard::NotUnderstood(source);
     }
-    Heard::Understood(source, Order::Levels(first))
+    Heard::Understood(source, Order::Levels(mask))
 }
 
-fn sense_command(source: u8, n: usize, first: u8) -> Heard
-    ensures { λ r. ⌜ r ≡ senseCommand source n first ⌝ }
+fn sense_command(source: u8, bytes: &[u8]) -> Heard
+    ensures { λ r. ⌜ r ≡ senseCommand source (now (bytes .entry)) ⌝ }
 {
-    if n != 1 {
+    if bytes.len() != 1 {
         return Heard::NotUnderstood(source);
     }
-    if first == 1 {
-        return Heard::Understood(source, Order::Sense(first));
+    let which = byte_at(bytes, 0);
+    if which == 1 {
+        return Heard::Understood(source, Order::Sense(which));
     }
-    if first != 2 {
+    if which != 2 {
         return Heard::NotUnderstood(source);
     }
-    Heard::Understood(source, Order::Sense(first))
+    Heard::Understood(source, Order::Sense(which))
+}
+
+fn remote_command(source: u8, bytes: &[u8]) -> Heard
+    ensures { λ r. ⌜ r ≡ remoteCommand source (now (bytes .entry)) ⌝ }
+{
+    if bytes.len() != 0 {
+        return Heard::NotUnderstood(source);
+    }
+    Heard::Understood(source, Order::Remote)
 }
 
 // What a message asks.
@@ -218,11 +229,6 @@ pub fn hear(m: &[u8]) -> Heard
     if is_broken(m) {
         return Heard::Broken(source);
     }
-    command_of(
-        source,
-        byte_at(m, 4),
-        m.len() - 6,
-        byte_at(m, 5),
-        byte_at(m, 6),
-    )
+    let bytes = &m[5..m.len() - 1];
+    command_of(source, byte_at(m, 4), bytes)
 }

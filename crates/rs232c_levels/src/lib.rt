@@ -8,11 +8,14 @@ ghost use Rattle.rs232c_asks.specs.Asks.{valuesOf};
 ghost use Rattle.rs232c_levels.specs.Levels.{gainOf, biasOf, said, put, decode, puts, balancedBy};
 use octets::ones_of;
 
-// 40h: value j of those that follow the mask, low byte first.
+// 40h: value j of those that follow the mask, low byte first; the checksum is no part of a value.
 fn value_at(m: &[u8], j: usize) -> u16
     requires { ⌜ j ≤ 8 ⌝ }
     ensures { λ r. ⌜ r ≡ getD (valuesOf (now (m .entry))) j 0 ⌝ }
 {
+    if m.len() < 9 + 2 * j {
+        return 0;
+    }
     byte_at(m, 6 + 2 * j) as u16 + 256 * (byte_at(m, 7 + 2 * j) as u16)
 }
 

@@ -4,7 +4,7 @@ use mathlib.Core.Path.{_≡_, refl, sym, _∙_}
 use mathlib.Core.Bool.{Bool, true, false, not, cond, _&&_, _||_}
 use mathlib.Core.List.{List, [], _∷_}
 use lib.Count.{ones}
-use lib.Dec.{eqb, leb, ltb}
+use lib.Dec.{eqb, ltb}
 use lib.ListN.{length, getD}
 use Rattle.laws.specs.Bytes.{ascii, part, same}
 use Rattle.laws.specs.Lists.{every}
@@ -23,6 +23,7 @@ use Rattle.rs232c_asks.specs.Asks as serialAsks
 use Rattle.rs232c_asks.specs.Commands.{configGood, selectGood}
 use Rattle.rs232c.specs.Replies as serial
 use Rattle.rs232c_asks.specs.declared.Order as serialOrder
+use Rattle.rs232c_asks.specs.declared.Order.the-variants as serialOrders
 use Rattle.rs232c_asks.specs.declared.Heard as serialHeard
 use Rattle.rs232c_asks.specs.declared.Heard.the-variants as serialIs
 use Rattle.sdcp_asks.specs.Asks as packetAsks
@@ -31,6 +32,7 @@ use Rattle.sdcp_asks.specs.declared.Heard as packetHeard
 use Rattle.sdcp_asks.specs.declared.Heard.the-variants as packetIs
 use Rattle.kjw.specs.Replies as frames
 use Rattle.kjw_asks.specs.Asks as frameAsks
+use Rattle.kjw_sets.specs.Words.{switches, scenes}
 use Rattle.kjw_sets.specs.Sets as frameSets
 use Rattle.kjw_asks.specs.Frames.{blank, lettersOf, typeControl}
 use Rattle.kjw_asks.specs.declared.Named.{Named}
@@ -38,6 +40,9 @@ use Rattle.kjw_asks.specs.declared.Named.the-variants.{Is, Nothing}
 use Rattle.kjw_sets.specs.declared.State.{State}
 use Rattle.kjw_sets.specs.declared.State.the-variants.{Power, AudioMute, PictureMute, Volume, Input, Scene}
 use Rattle.kjw_sets.specs.declared.Order as frameOrder
+use Rattle.kjw_sets.specs.declared.Order.the-variants as frameOrders
+use Rattle.kjw_sets.specs.declared.Choice as frameChoice
+use Rattle.kjw_sets.specs.declared.Choice.the-variants as frameChoices
 use Rattle.kjw_sets.specs.declared.Heard as frameHeard
 use Rattle.kjw_sets.specs.declared.Heard.the-variants as frameIs
 
@@ -79,18 +84,25 @@ serial-number (serialIs.Broken s) j = absurd j
 serial-number (serialIs.NotUnderstood s) j = refl
 serial-number (serialIs.Understood s o) j = refl
 
-command-judged : (s code n a b : ℕ) → SerialJudged (serialAsks.commandOf s code n a b)
-unfolding serialAsks.commandOf serialAsks.configCommand serialAsks.selectCommand serialAsks.levelsCommand serialAsks.senseCommand
-command-judged s code n a b =
-    choose SerialJudged (eqb code 0x21) _ _ (λ e. choose SerialJudged (not (eqb n 2)) _ _ (λ f. tt) (λ f. choose SerialJudged (not (configGood a b)) _ _ (λ g. tt) (λ g. tt)))
-    (λ e. choose SerialJudged (eqb code 0x22) _ _ (λ f. choose SerialJudged (not (eqb n 1)) _ _ (λ g. tt) (λ g. choose SerialJudged (not (selectGood a)) _ _ (λ h. tt) (λ h. tt)))
-    (λ f. choose SerialJudged (eqb code 0x40) _ _ (λ g. choose SerialJudged (not (eqb n (1 + 2 * ones (a % 64)))) _ _ (λ h. tt) (λ h. tt))
-    (λ g. choose SerialJudged (eqb code 0x61) _ _ (λ h. choose SerialJudged (not (eqb n 1)) _ _ (λ i. tt) (λ i. choose SerialJudged (eqb a 1) _ _ (λ j. tt) (λ j. choose SerialJudged (eqb a 2) _ _ (λ k. tt) (λ k. tt))))
-    (λ h. choose SerialJudged (not (eqb code 0x6e)) _ _ (λ i. tt) (λ i. choose SerialJudged (not (eqb n 0)) _ _ (λ j. tt) (λ j. tt))))))
+good-judged : (good : Bool) (s : ℕ) (o : serialOrder.Order) → SerialJudged (serialAsks.ifGood good s o)
+good-judged true s o = tt
+good-judged false s o = tt
+
+command-judged : (s code : ℕ) (bytes : List ℕ) → SerialJudged (serialAsks.commandOf s code bytes)
+unfolding serialAsks.commandOf serialAsks.configCommand serialAsks.selectCommand serialAsks.levelsCommand serialAsks.senseCommand serialAsks.remoteCommand
+command-judged s code bytes =
+    let n = length bytes in
+    let x = serialAsks.first bytes in
+    let y = serialAsks.second bytes in
+    choose SerialJudged (eqb code 0x21) _ _ (λ e. good-judged (eqb n 2 && configGood x y) s (serialOrders.Config x y))
+    (λ e. choose SerialJudged (eqb code 0x22) _ _ (λ f. good-judged (eqb n 1 && selectGood x) s (serialOrders.Select x))
+    (λ f. choose SerialJudged (eqb code 0x40) _ _ (λ g. good-judged (eqb n (1 + 2 * ones (x % 64))) s (serialOrders.Levels x))
+    (λ g. choose SerialJudged (eqb code 0x61) _ _ (λ h. good-judged (eqb n 1 && (eqb x 1 || eqb x 2)) s (serialOrders.Sense x))
+    (λ h. choose SerialJudged (eqb code 0x6e) _ _ (λ i. good-judged (eqb n 0) s serialOrders.Remote) (λ i. tt)))))
 
 serial-heard : (m : List ℕ) → serialNumber (serialAsks.heardOf m) ≡ firstFrom 3 (serialConditions m)
 unfolding serialAsks.heardOf
-serial-heard m = go (ltb (length m) 6) (serialAsks.isForeign m) (serialAsks.isBroken m) (getD m 3 0) _ (command-judged _ _ _ _ _)
+serial-heard m = go (ltb (length m) 6) (serialAsks.isForeign m) (serialAsks.isBroken m) (serialAsks.sourceOf m) _ (command-judged _ _ _)
   where
     go : (a b c : Bool) (s : ℕ) (h : serialHeard.Heard) → SerialJudged h → serialNumber (cond a (serialIs.Refused WrongLength) (cond b (serialIs.Refused NotForUs) (cond c (serialIs.Broken s) h))) ≡ firstFrom 3 (a ∷ b ∷ c ∷ serialUnclear (cond a (serialIs.Refused WrongLength) (cond b (serialIs.Refused NotForUs) (cond c (serialIs.Broken s) h))) ∷ [])
     go true b c s h j = refl
@@ -121,7 +133,7 @@ serial-unclear m = go (serialAsks.heardOf m)
 
 pub serial-clear : (m : List ℕ) → ltb (length m) 6 ≡ false → serialAsks.isForeign m ≡ false → serialAsks.isBroken m ≡ false → serialUnclear (serialAsks.heardOf m) ≡ false → (s : ℕ) × (o : serialOrder.Order) × (serialAsks.heardOf m ≡ serialIs.Understood s o)
 unfolding serialAsks.heardOf
-serial-clear m a b c = rw (a, b, c) (go _ (command-judged _ _ _ _ _))
+serial-clear m a b c = rw (a, b, c) (go _ (command-judged _ _ _))
   where
     go : (h : serialHeard.Heard) → SerialJudged h → serialUnclear h ≡ false → (s : ℕ) × (o : serialOrder.Order) × (h ≡ serialIs.Understood s o)
     go (serialIs.Refused a) j u = absurd j
@@ -215,9 +227,9 @@ frame-number (frameIs.Refused a) j = absurd j
 frame-number frameIs.NotUnderstood j = refl
 frame-number (frameIs.Understood o) j = refl
 
-order-judged : (most v : ℕ) (o : frameOrder.Order) → FrameJudged (frameSets.upTo most v o)
-unfolding frameSets.upTo
-order-judged most v o = choose FrameJudged (leb v most) _ _ (λ e. tt) (λ e. tt)
+choice-judged : (order : ℕ → frameOrder.Order) (c : frameChoice.Choice) → FrameJudged (frameSets.choiceOrder order c)
+choice-judged order (frameChoices.Is v) = tt
+choice-judged order frameChoices.Nothing = tt
 
 input-judged : (kind port : ℕ) → FrameJudged (frameSets.inputOf kind port)
 unfolding frameSets.inputOf
@@ -225,15 +237,15 @@ input-judged kind port = choose FrameJudged (okInput kind port) _ _ (λ e. tt) (
 
 by-judged : (s : State) (p : List ℕ) → FrameJudged (frameSets.setBy s p)
 unfolding frameSets.setBy frameSets.volumeOrder frameSets.inputOrder
-by-judged Power p = order-judged 1 _ _
-by-judged AudioMute p = order-judged 1 _ _
-by-judged PictureMute p = order-judged 1 _ _
+by-judged Power p = choice-judged frameOrders.SetPower (frameSets.chosen switches p)
+by-judged AudioMute p = choice-judged frameOrders.SetAudioMute (frameSets.chosen switches p)
+by-judged PictureMute p = choice-judged frameOrders.SetPictureMute (frameSets.chosen switches p)
 by-judged Volume p = choose FrameJudged (frameSets.isVolume p) _ _ (λ e. tt) (λ e. tt)
 by-judged Input p =
     choose FrameJudged (frameSets.isPadded p && every isDigit (frameSets.kindIn p) && every isDigit (frameSets.portIn p)) _ _
     (λ e. input-judged (decimal (frameSets.kindIn p)) (decimal (frameSets.portIn p)))
     (λ e. tt)
-by-judged Scene p = order-judged 2 _ _
+by-judged Scene p = choice-judged frameOrders.SetScene (frameSets.chosen scenes p)
 
 set-judged : (s : State) (p : List ℕ) → FrameJudged (frameSets.setOf s p)
 unfolding frameSets.setOf

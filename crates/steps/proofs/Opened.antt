@@ -41,7 +41,7 @@ openedNames c = names (configured c .made)
 
 -- RS-232C
 unfoldable openedSerial : List ℕ → WRecord → Turn WRecord
-unfolding sumOf ones onesIn serialAsks.isForeign serialAsks.isBroken serialAsks.levelsCommand serialAsks.commandOf serialAsks.heardOf serialLevels.decode serialLevels.balancedBy serialOrders.carried serialTexts.frameOf serialTexts.bytesOf serialTexts.replyTo serial.turned
+unfolding sumOf ones onesIn serialAsks.isForeign serialAsks.isBroken serialAsks.levelsCommand serialAsks.remoteCommand serialAsks.commandOf serialAsks.heardOf serialLevels.decode serialLevels.balancedBy serialOrders.carried serialTexts.frameOf serialTexts.bytesOf serialTexts.replyTo serial.turned
 openedSerial m w = serial.turnOf m w
 
 -- KJW

@@ -34,17 +34,16 @@ returns-4 : tie.Need-returns-4
 unfolding commandOf
 returns-4 c = c .sense-command .ensures ∙ sym (rw (ne-eqb _ _ (c .before .before .before .before .if1 .left), ne-eqb _ _ (c .before .before .before .if2 .left), ne-eqb _ _ (c .before .before .if3 .left), eq-eqb _ _ (c .before .if4 .taken)))
 
+remote-command-requires : tie.Need-remote-command-requires
+remote-command-requires c κs = search needs
+
 returns-5 : tie.Need-returns-5
 unfolding commandOf
-returns-5 c = sym (rw (ne-eqb _ _ (c .before .before .before .before .if1 .left), ne-eqb _ _ (c .before .before .before .if2 .left), ne-eqb _ _ (c .before .before .if3 .left), ne-eqb _ _ (c .before .if4 .left), ne-eqb _ _ (c .if5 .taken)))
+returns-5 c = c .remote-command .ensures ∙ sym (rw (ne-eqb _ _ (c .before .before .before .before .before .if1 .left), ne-eqb _ _ (c .before .before .before .before .if2 .left), ne-eqb _ _ (c .before .before .before .if3 .left), ne-eqb _ _ (c .before .before .if4 .left), eq-eqb _ _ (c .before .if5 .taken)))
 
 returns-6 : tie.Need-returns-6
 unfolding commandOf
-returns-6 c = sym (rw (ne-eqb _ _ (c .before .before .before .before .before .if1 .left), ne-eqb _ _ (c .before .before .before .before .if2 .left), ne-eqb _ _ (c .before .before .before .if3 .left), ne-eqb _ _ (c .before .before .if4 .left), eq-eqb _ _ (c .before .if5 .left), ne-eqb _ _ (c .if6 .taken)))
-
-returns-7 : tie.Need-returns-7
-unfolding commandOf
-returns-7 c = sym (rw (ne-eqb _ _ (c .before .before .before .before .before .if1 .left), ne-eqb _ _ (c .before .before .before .before .if2 .left), ne-eqb _ _ (c .before .before .before .if3 .left), ne-eqb _ _ (c .before .before .if4 .left), eq-eqb _ _ (c .before .if5 .left), eq-eqb _ _ (c .if6 .left)))
+returns-6 c = sym (rw (ne-eqb _ _ (c .before .before .before .before .if1 .left), ne-eqb _ _ (c .before .before .before .if2 .left), ne-eqb _ _ (c .before .before .if3 .left), ne-eqb _ _ (c .before .if4 .left), ne-eqb _ _ (c .if5 .left)))
 
 pub command-of-spec : {M : Type 1} → statement M
 command-of-spec =
@@ -58,6 +57,6 @@ command-of-spec =
     returns-3
     sense-command-requires
     returns-4
+    remote-command-requires
     returns-5
-    returns-6
-    returns-7)
+    returns-6)

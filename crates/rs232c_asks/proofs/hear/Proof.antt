@@ -1,7 +1,10 @@
 -- `hear` gives the first refusal that applies, and else the command.
-use mathlib.Core.Path.{sym}
+use Prim.Native.Nat.{_-_}
+use mathlib.Core.Path.{_≡_, sym}
+use lib.ListN.{length}
 use borrow.Author.Tests.{lt-ltb, le-ltb}
 use borrow.Author.Needs.{needs}
+use native.Mathlib.Omega.{arith}
 use Rattle.rs232c_asks.specs.Asks.{heardOf}
 use Rattle.rs232c_asks.proofs.hear.Statement.{statement}
 use Rattle.rs232c_asks.proofs.hear.Tie as tie
@@ -27,24 +30,40 @@ returns-3 : tie.Need-returns-3
 unfolding heardOf
 returns-3 c = sym (rw (le-ltb _ _ (c .before .before .before .before .before .if1 .left), ← c .before .before .before .before .is-foreign .ensures, c .before .before .before .if2 .left, ← c .before .is-broken .ensures, c .if3 .taken, ← c .before .before .byte-at .ensures))
 
+sub-bytes : tie.Need-sub-bytes
+sub-bytes c = search needs
+
+sub-bytes-2 : tie.Need-sub-bytes-2
+sub-bytes-2 c = search needs
+
+part-bytes-start : tie.Need-part-bytes-start
+part-bytes-start c = search needs
+
+part-bytes-end : tie.Need-part-bytes-end
+part-bytes-end c = search needs
+
 byte-at-requires-2 : tie.Need-byte-at-requires-2
 byte-at-requires-2 c κs = search needs
-
-sub-command-of : tie.Need-sub-command-of
-sub-command-of c = search needs
-
-byte-at-requires-3 : tie.Need-byte-at-requires-3
-byte-at-requires-3 c κs = search needs
-
-byte-at-requires-4 : tie.Need-byte-at-requires-4
-byte-at-requires-4 c κs = search needs
 
 command-of-requires : tie.Need-command-of-requires
 command-of-requires c κs = search needs
 
 returns-4 : tie.Need-returns-4
 unfolding heardOf
-returns-4 c = sym (rw (le-ltb _ _ (c .before .before .before .before .before .before .before .before .before .if1 .left), ← c .before .before .before .before .before .before .before .before .is-foreign .ensures, c .before .before .before .before .before .before .before .if2 .left, ← c .before .before .before .before .before .is-broken .ensures, c .before .before .before .before .if3 .left, ← c .before .before .before .before .before .before .byte-at .ensures, ← c .before .before .before .byte-at2 .ensures, ← c .before .before .byte-at3 .ensures, ← c .before .byte-at4 .ensures) (sym (c .command-of .ensures)))
+returns-4 c =
+    let m = c .before .before .before .before .before .before .before .before .before .before .args .m .now in
+    let n : length m - 1 - 5 ≡ length m - 6 = omega arith in
+    sym (rw (
+      le-ltb _ _ (c .before .before .before .before .before .before .before .before .if1 .left),
+      ← c .before .before .before .before .before .before .before .is-foreign .ensures,
+      c .before .before .before .before .before .before .if2 .left,
+      ← c .before .before .before .before .is-broken .ensures,
+      c .before .before .before .if3 .left,
+      ← c .before .before .before .before .before .byte-at .ensures,
+      ← c .before .byte-at2 .ensures,
+      ← n,
+    )
+    (sym (c .command-of .ensures)))
 
 pub hear-spec : {M : Type 1} → statement M
 hear-spec =
@@ -56,9 +75,10 @@ hear-spec =
     byte-at-requires
     is-broken-requires
     returns-3
+    sub-bytes
+    sub-bytes-2
+    part-bytes-start
+    part-bytes-end
     byte-at-requires-2
-    sub-command-of
-    byte-at-requires-3
-    byte-at-requires-4
     command-of-requires
     returns-4)

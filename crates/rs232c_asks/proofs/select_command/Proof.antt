@@ -10,16 +10,24 @@ returns : tie.Need-returns
 unfolding selectCommand
 returns c = sym (rw (ne-eqb _ _ (c .if1 .taken)))
 
+byte-at-requires : tie.Need-byte-at-requires
+byte-at-requires c κs = search needs
+
 select-good-requires : tie.Need-select-good-requires
 select-good-requires c κs = search needs
 
 returns-2 : tie.Need-returns-2
 unfolding selectCommand
-returns-2 c = sym (rw (eq-eqb _ _ (c .before .before .if1 .left), ← c .before .select-good .ensures, not-true (c .before .select-good .result) (c .if2 .taken)))
+returns-2 c =
+    let good = c .before .select-good in
+    sym (rw (eq-eqb _ _ (c .before .before .before .if1 .left), ← c .before .before .byte-at .ensures, ← good .ensures, not-true (good .result) (c .if2 .taken)))
 
 returns-3 : tie.Need-returns-3
 unfolding selectCommand
-returns-3 c = sym (rw (eq-eqb _ _ (c .before .before .if1 .left), ← c .before .select-good .ensures, not-false (c .before .select-good .result) (c .if2 .left)))
+returns-3 c =
+    let good = c .before .select-good in
+    sym (rw (eq-eqb _ _ (c .before .before .before .if1 .left), ← c .before .before .byte-at .ensures, ← good .ensures, not-false (good .result) (c .if2 .left)))
 
 pub select-command-spec : {M : Type 1} → statement M
-select-command-spec = tie.close (tie.spec returns select-good-requires returns-2 returns-3)
+select-command-spec =
+    tie.close (tie.spec returns byte-at-requires select-good-requires returns-2 returns-3)

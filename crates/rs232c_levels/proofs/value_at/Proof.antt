@@ -1,38 +1,57 @@
--- `value_at` reads the two bytes of a word; past the end both readings give 0.
-use Prim.Native.Nat.{ℕ, zero, suc, _+_, _*_}
+-- `value_at` reads the two bytes of a word where both stand before the checksum; behind the last value both readings give 0.
+use Prim.Native.Nat.{ℕ, zero, suc, _+_, _*_, _-_, _<_, _≤_}
 use mathlib.Core.Path.{_≡_, refl, sym, ap, _∙_}
 use mathlib.Core.List.{List, [], _∷_}
-use lib.ListN.{getD, drop}
-use lib.Seq.{getD-drop}
+use lib.ListN.{length, getD, drop, length-take, length-drop}
+use lib.Seq.{getD-drop, getD-take}
 use borrow.Author.Needs.{needs}
 use native.Mathlib.Omega.{arith}
-use Rattle.rs232c_asks.specs.Asks.{words, valuesOf}
+use Rattle.rs232c_asks.specs.Asks.{dataOf, words, valuesOf}
 use Rattle.rs232c_levels.proofs.value_at.Statement.{statement}
 use Rattle.rs232c_levels.proofs.value_at.Tie as tie
 
-word-at : (l : List ℕ) (j : ℕ) → getD (words l) j 0 ≡ getD l (2 * j) 0 + 256 * getD l (2 * j + 1) 0
-word-at [] j = omega arith
-word-at (x ∷ []) zero = omega arith
-word-at (x ∷ []) (suc j) =
-    let a : 2 * suc j ≡ suc (2 * j + 1) = omega arith in
-    let b : 2 * suc j + 1 ≡ suc (2 * j + 2) = omega arith in
-    let p : getD (x ∷ []) (2 * suc j) 0 ≡ 0 = rw a in
-    let q : getD (x ∷ []) (2 * suc j + 1) 0 ≡ 0 = rw b in
-    omega (arith, p, q)
-word-at (x ∷ y ∷ l) zero = refl
-word-at (x ∷ y ∷ l) (suc j) =
+word-at : (l : List ℕ) (j : ℕ) → 2 * j + 1 < length l → getD (words l) j 0 ≡ getD l (2 * j) 0 + 256 * getD l (2 * j + 1) 0
+word-at [] j h = absurd (omega arith)
+word-at (x ∷ []) j h = absurd (omega arith)
+word-at (x ∷ y ∷ l) zero h = refl
+word-at (x ∷ y ∷ l) (suc j) h =
     let a : 2 * suc j ≡ suc (suc (2 * j)) = omega arith in
     let b : 2 * suc j + 1 ≡ suc (suc (2 * j + 1)) = omega arith in
     let p : getD (x ∷ y ∷ l) (2 * suc j) 0 ≡ getD l (2 * j) 0 = rw a in
     let q : getD (x ∷ y ∷ l) (2 * suc j + 1) 0 ≡ getD l (2 * j + 1) 0 = rw b in
-    omega (arith, p, q, word-at l j)
+    omega (arith, p, q, word-at l j (omega arith))
 
-value-is : (m : List ℕ) (j : ℕ) → getD (valuesOf m) j 0 ≡ getD m (6 + 2 * j) 0 + 256 * getD m (7 + 2 * j) 0
-value-is m j =
+no-word : (l : List ℕ) (j : ℕ) → length l ≤ 2 * j + 1 → getD (words l) j 0 ≡ 0
+no-word [] j h = refl
+no-word (x ∷ []) j h = refl
+no-word (x ∷ y ∷ l) zero h = absurd (omega arith)
+no-word (x ∷ y ∷ l) (suc j) h = no-word l j (omega arith)
+
+-- the bytes behind the mask are the frame's from place 6 on, up to the checksum
+behind-mask : (m : List ℕ) (i : ℕ) → i + 7 < length m → getD (drop 1 (dataOf m)) i 0 ≡ getD m (6 + i) 0
+behind-mask m i h =
+    getD-drop 1 (dataOf m) i 0 ∙ getD-take (length m - 6) (drop 5 m) (1 + i) 0 (omega arith) ∙ getD-drop 5 m (1 + i) 0
+    ∙ ap (λ (k : ℕ). getD m k 0) (omega arith)
+
+value-is : (m : List ℕ) (j : ℕ) → 9 + 2 * j ≤ length m → getD (valuesOf m) j 0 ≡ getD m (6 + 2 * j) 0 + 256 * getD m (7 + 2 * j) 0
+value-is m j h =
     let a : 6 + (2 * j + 1) ≡ 7 + 2 * j = omega arith in
-    let p : getD (drop 6 m) (2 * j) 0 ≡ getD m (6 + 2 * j) 0 = getD-drop 6 m (2 * j) 0 in
-    let q : getD (drop 6 m) (2 * j + 1) 0 ≡ getD m (7 + 2 * j) 0 = getD-drop 6 m (2 * j + 1) 0 ∙ ap (λ (k : ℕ). getD m k 0) a in
-    omega (arith, p, q, word-at (drop 6 m) j)
+    let p : getD (drop 1 (dataOf m)) (2 * j) 0 ≡ getD m (6 + 2 * j) 0 = behind-mask m (2 * j) (omega arith) in
+    let q : getD (drop 1 (dataOf m)) (2 * j + 1) 0 ≡ getD m (7 + 2 * j) 0 = behind-mask m (2 * j + 1) (omega arith) ∙ ap (λ (k : ℕ). getD m k 0) a in
+    let w = word-at (drop 1 (dataOf m)) j (simp (length-drop, length-take, length-drop) (omega arith)) in
+    omega (arith, p, q, w)
+
+no-value : (m : List ℕ) (j : ℕ) → length m < 9 + 2 * j → getD (valuesOf m) j 0 ≡ 0
+no-value m j h = no-word (drop 1 (dataOf m)) j (simp (length-drop, length-take, length-drop) (omega arith))
+
+mul-if1 : tie.Need-mul-if1
+mul-if1 c = search needs
+
+add-if1 : tie.Need-add-if1
+add-if1 c = search needs
+
+returns : tie.Need-returns
+returns c = sym (no-value (c .before .before .args .m .now) (c .before .before .args .j) (omega arith))
 
 mul-byte-at : tie.Need-mul-byte-at
 mul-byte-at c = search needs
@@ -64,13 +83,18 @@ mul-result c = search needs
 add-result : tie.Need-add-result
 add-result c = search needs
 
-returns : tie.Need-returns
-returns c = sym (value-is (c .before .before .before .args .m .now) (c .before .before .before .args .j) ∙ rw (← c .before .byte-at .ensures, ← c .byte-at2 .ensures))
+returns-2 : tie.Need-returns-2
+returns-2 c =
+    let a = c .before .before .before .before .args in
+    sym (value-is (a .m .now) (a .j) (omega arith) ∙ rw (← c .before .byte-at .ensures, ← c .byte-at2 .ensures))
 
 pub value-at-spec : {M : Type 1} → statement M
 value-at-spec =
     tie.close
     (tie.spec
+    mul-if1
+    add-if1
+    returns
     mul-byte-at
     add-byte-at
     byte-at-requires
@@ -81,4 +105,4 @@ value-at-spec =
     cast-result-2
     mul-result
     add-result
-    returns)
+    returns-2)
