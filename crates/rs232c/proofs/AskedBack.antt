@@ -184,7 +184,7 @@ config-kept room s marks byte m w d e = rw (done room s (Config marks byte) m w 
 
 -- ---- 22h
 
--- what the inputs are behind a 22h; "The connector in use may be turned OFF and stays in use."
+-- what the inputs are behind a 22h
 pub record Selected (byte : ℕ) (i i′ : Inputs) : Type 0 where
   -- "2 ON"
   pub turned-on : actOf byte ≡ 2 → getD (i′ .on) (placeOf (connectorOf byte)) 0 ≡ 1
@@ -225,6 +225,13 @@ selected byte i l g = record {
 pub select-kept : (room s byte : ℕ) (m : List ℕ) (w : WRecord) → length (w .inputs .on) ≡ 10 → taken room (turnOf m) w .answer ≡ Done → heardOf m ≡ Understood s (Select byte) → Selected byte (w .inputs) (taken room (turnOf m) w .after .inputs)
 unfolding carried
 select-kept room s byte m w l d e = rw (done room s (Select byte) m w d e) (selected byte (w .inputs) l (understood-known m s (Select byte) e .2))
+
+-- "The connector in use may be turned OFF and stays in use.": an OFF for it that is answered 0, where another is not OFF
+pub in-use-off : (room s byte : ℕ) (m : List ℕ) (w : WRecord) → length (w .inputs .on) ≡ 10 → taken room (turnOf m) w .answer ≡ Done → heardOf m ≡ Understood s (Select byte) → actOf byte ≡ 1 → connectorOf byte ≡ w .inputs .used → (k : ℕ) → (k ≡ placeOf (w .inputs .used) → ⊥) → (getD (w .inputs .on) k 0 ≡ 0 → ⊥) → (getD (taken room (turnOf m) w .after .inputs .on) (placeOf (w .inputs .used)) 0 ≡ 0) × (taken room (turnOf m) w .after .inputs .used ≡ w .inputs .used)
+in-use-off room s byte m w l d e a u k n h =
+    let kept = select-kept room s byte m w l d e in
+    let off = kept .turned-off a k in
+    ((rw u at off) n h, kept .used-stays)
 
 -- ---- it stays
 

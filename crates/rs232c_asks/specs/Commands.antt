@@ -5,6 +5,8 @@ use lib.Dec.{eqb}
 use Rattle.laws.specs.Lists.{listed}
 use Rattle.panels.specs.Records.{connectors, presets}
 
+-- "Undefined bits are ignored.": of each byte just the bits are read that are named here.
+
 -- ---- 21h: "First: bit 0 connector, bit 1 preset white balance (house). Second: connector in bits 0 to 3, preset in bits 4 to 6."
 abbrev pub connectorMarked : ℕ → Bool
 connectorMarked marks = eqb (marks % 2) 1

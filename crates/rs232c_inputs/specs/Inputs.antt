@@ -40,5 +40,6 @@ onAfter byte on =
     (cond (eqb (actOf byte) 2) (set on (placeOf (connectorOf byte)) 1)
     (replicate 10 1))
 
+-- "The connector in use may be turned OFF and stays in use."
 abbrev pub selectedBy : ℕ → Inputs → Inputs
 selectedBy byte i = record { used = i .used; preset = i .preset; on = onAfter byte (i .on) }

@@ -1,10 +1,11 @@
 -- Document 01, "SDCP and VMC" and "Start values": the one table of a W panel's settings, in the order of its record.
-use Prim.Native.Nat.{ℕ, _-_}
+use Prim.Native.Nat.{ℕ, suc, _-_}
 use Prim.Native.String.{String}
+use mathlib.Core.Bool.{cond}
 use mathlib.Core.List.{List, [], _∷_, map}
 use lib.ListN.{length}
 use lib.IntN.{ℤ, negsuc}
-use Rattle.laws.specs.Bytes.{ascii}
+use Rattle.laws.specs.Bytes.{ascii, same}
 
 -- a setting: its name, what parts the name from its value, the words of its values 0, 1 and so on (a level has none: its
 -- value is a number), its greatest value and its start value
@@ -75,9 +76,13 @@ settingCount = 21
 abbrev pub nameCount : ℕ
 nameCount = 23
 
--- where REMOTE stands in it
+-- where the setting of a name stands; behind the end where none has it
+abbrev pub placeNamed : List ℕ → List Setting → ℕ
+placeNamed name [] = 0
+placeNamed name (s ∷ ss) = cond (same name (s .name)) 0 (suc (placeNamed name ss))
+
 abbrev pub remote : ℕ
-remote = 6
+remote = placeNamed (ascii "REMOTE") table
 
 -- the columns of numbers
 abbrev pub mosts : List ℕ
