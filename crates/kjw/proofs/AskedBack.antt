@@ -6,24 +6,23 @@ use Prim.Native.Nat.{ℕ, _+_, _-_, _≤_}
 use native.Mathlib.Omega.{arith}
 use lib.ListN.{length, getD, take}
 use lib.Seq.{take-at, getD-append-add, take-length}
-use lib.Dec.{eqb, leb}
+use lib.Dec.{eqb}
 use borrow.Author.Tests.{eq-eqb}
-use Rattle.laws.specs.Bytes.{ascii, part, same}
+use Rattle.laws.specs.Bytes.{ascii, part}
 use Rattle.laws.specs.Lists.{every, listed}
-use Rattle.laws.proofs.Lists.{same-is, part-join, part-length}
-use Rattle.laws.proofs.Conditions.{false-true}
+use Rattle.laws.proofs.Lists.{part-join, part-length}
 use Rattle.terms.specs.declared.Answer.the-variants.{Done}
-use Rattle.panels.specs.Records.{lastScene}
 use Rattle.panels.specs.Valid.{okInput}
 use Rattle.panels.specs.declared.KRecord.{KRecord}
 use Rattle.decimals.specs.Decimals.{isDigit, decimal, inDigits}
 use Rattle.kjw_asks.specs.Frames.{frameOf, typeControl, typeEnquiry, typeAnswer, lettersOf, blank}
-use Rattle.kjw_sets.specs.Words.{stateLetters}
-use Rattle.kjw_sets.specs.Words.{off, on, auto, autoSync, general}
+use Rattle.kjw_sets.specs.Words.{stateLetters, switches, scenes}
 use Rattle.kjw_values.specs.Values.{switchWord, sceneWord, inputWord, valueOf}
 use Rattle.kjw_tells.specs.Texts.{bytesOf}
 use Rattle.kjw_asks.specs.Asks.{namedIn, stateNamed, toggleOf, controlBy, controlOf, enquiryOf, isOurs, heardOf}
-use Rattle.kjw_sets.specs.Sets.{switchOf, sceneOf, isVolume, isPadded, kindIn, portIn, inputOf, upTo, volumeOrder, inputOrder, setBy}
+use Rattle.kjw_sets.specs.Sets.{chosen, choiceOrder, isVolume, isPadded, kindIn, portIn, inputOf, volumeOrder, inputOrder, setBy}
+use Rattle.kjw_sets.specs.declared.Choice.{Choice}
+use Rattle.kjw_sets.specs.declared.Choice.the-variants.{Is, Nothing}
 use Rattle.kjw_asks.specs.declared.Named.{Named}
 use Rattle.kjw_asks.proofs.Names.{letters-name}
 use Rattle.kjw.specs.Orders.{flipped, withPower, withPmut, carried}
@@ -35,31 +34,13 @@ use Rattle.kjw_sets.specs.declared.Order.the-variants.{SetPower, SetAudioMute, 
 use Rattle.kjw_sets.specs.declared.Heard.{Heard}
 use Rattle.kjw_sets.specs.declared.Heard.the-variants.{NotUnderstood, Understood}
 use Rattle.decimals.proofs.Decimals.{in-digits-decimal}
-use Rattle.kjw_sets.proofs.Parameters.{volume-digits, Inputs, input-is, sixteen}
+use Rattle.kjw_sets.proofs.Parameters.{Chose, volume-digits, Inputs, input-is, sixteen}
+use Rattle.kjw_values.proofs.Words.{switch-chosen, scene-chosen}
 use Rattle.kjw_tells.proofs.Lengths.{frame-length}
 use Rattle.turns.specs.Turns.{Turn, taken}
 use Rattle.turns.proofs.Turns.{roomy, done-room}
 
--- a word that is read is the word that is written
-switch-back : (p : List ℕ) → leb (switchOf p) 1 ≡ true → switchWord (switchOf p) ≡ p
-unfolding switchOf switchWord
-switch-back p = go (same p off) (same p on) refl refl
-  where
-    go : (a b : Bool) → same p off ≡ a → same p on ≡ b → leb (cond a 0 (cond b 1 2)) 1 ≡ true → cond (eqb (cond a 0 (cond b 1 2)) 0) off on ≡ p
-    go true b s t e = sym (same-is p off s)
-    go false true s t e = sym (same-is p on t)
-    go false false s t e = absurd (false-true e)
-
-scene-back : (p : List ℕ) → leb (sceneOf p) 2 ≡ true → sceneWord (sceneOf p) ≡ p
-unfolding sceneOf sceneWord
-scene-back p = go (same p auto) (same p autoSync) (same p general) refl refl refl
-  where
-    go : (a b c : Bool) → same p auto ≡ a → same p autoSync ≡ b → same p general ≡ c → leb (cond a 0 (cond b 1 (cond c 2 3))) 2 ≡ true → cond (eqb (cond a 0 (cond b 1 (cond c 2 3))) 0) auto (cond (eqb (cond a 0 (cond b 1 (cond c 2 3))) 1) autoSync general) ≡ p
-    go true b c s t u e = sym (same-is p auto s)
-    go false true c s t u e = sym (same-is p autoSync t)
-    go false false true s t u e = sym (same-is p general u)
-    go false false false s t u e = absurd (false-true e)
-
+-- digits that are read are the digits that are written
 volume-back : (p : List ℕ) → length p ≡ 16 → isVolume p ≡ true → inDigits 16 (decimal p) ≡ p
 volume-back p h e = ap (λ (n : ℕ). inDigits n (decimal p)) (sym h) ∙ in-digits-decimal p (volume-digits p e)
 
@@ -87,27 +68,25 @@ unfolding decided
 by-tests true b o k e = (refl, by-test b o k e .1)
 by-tests false b o k e = let z : _≡_ {A = ℕ} 0 1 = cc in absurd (omega arith)
 
+-- a word that was carried out is the word of the number that the state then has
+by-word : (s : State) (order : ℕ → Order) (word : ℕ → List ℕ) (below : ℕ) (p : List ℕ) (k : KRecord) (c : Choice) → ((v : ℕ) → valueOf s (carried (order v) k) ≡ word v) → Chose word below p c → decided k (choiceOrder order c) .answer ≡ Done → valueOf s (decided k (choiceOrder order c) .k) ≡ p
+unfolding decided
+by-word s order word below p k (Is v) w h e = w v ∙ h .1
+by-word s order word below p k Nothing w h e = let z : _≡_ {A = ℕ} 0 1 = cc in absurd (omega arith)
+
 -- a control that is carried out sets its state to the value that its parameters write
 pub set-value : (s : State) (p : List ℕ) (k : KRecord) → length p ≡ 16 → decided k (setBy s p) .answer ≡ Done → valueOf s (decided k (setBy s p) .k) ≡ p
-unfolding setBy upTo volumeOrder inputOrder inputOf carried valueOf
-set-value Power p k h e =
-    let t = by-test (leb (switchOf p) 1) (SetPower (switchOf p)) k e in
-    ap (valueOf Power) (t .1) ∙ switch-back p (t .0)
-set-value AudioMute p k h e =
-    let t = by-test (leb (switchOf p) 1) (SetAudioMute (switchOf p)) k e in
-    ap (valueOf AudioMute) (t .1) ∙ switch-back p (t .0)
-set-value PictureMute p k h e =
-    let t = by-test (leb (switchOf p) 1) (SetPictureMute (switchOf p)) k e in
-    ap (valueOf PictureMute) (t .1) ∙ switch-back p (t .0)
+unfolding setBy volumeOrder inputOrder inputOf carried valueOf
+set-value Power p k h e = by-word Power SetPower switchWord 2 p k (chosen switches p) (λ v. refl) (switch-chosen p) e
+set-value AudioMute p k h e = by-word AudioMute SetAudioMute switchWord 2 p k (chosen switches p) (λ v. refl) (switch-chosen p) e
+set-value PictureMute p k h e = by-word PictureMute SetPictureMute switchWord 2 p k (chosen switches p) (λ v. refl) (switch-chosen p) e
 set-value Volume p k h e =
     let t = by-test (isVolume p) (SetVolume (decimal p)) k e in
     ap (valueOf Volume) (t .1) ∙ volume-back p h (t .0)
 set-value Input p k h e =
     let t = by-tests (isPadded p && every isDigit (kindIn p) && every isDigit (portIn p)) (okInput (decimal (kindIn p)) (decimal (portIn p))) (SetInput (decimal (kindIn p)) (decimal (portIn p))) k e in
     ap (valueOf Input) (t .1) ∙ input-back p h (input-is p (t .0))
-set-value Scene p k h e =
-    let t = by-test (leb (sceneOf p) lastScene) (SetScene (sceneOf p)) k e in
-    ap (valueOf Scene) (t .1) ∙ scene-back p (t .0)
+set-value Scene p k h e = by-word Scene SetScene sceneWord 3 p k (chosen scenes p) (λ v. refl) (scene-chosen p) e
 
 -- a control or an enquiry that is well made is heard by its letters and parameters
 heard-frame : (t a b c d : ℕ) (p : List ℕ) → length p ≡ 16 → listed (typeControl ∷ typeEnquiry ∷ []) t ≡ true → heardOf (frameOf t (a ∷ b ∷ c ∷ d ∷ []) p) ≡ cond (eqb t typeControl) (controlOf (a ∷ b ∷ c ∷ d ∷ []) p) (enquiryOf (a ∷ b ∷ c ∷ d ∷ []) p)

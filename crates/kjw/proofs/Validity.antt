@@ -2,7 +2,8 @@
 use mathlib.Core.Path.{_≡_, refl}
 use mathlib.Core.Bool.{Bool, true, not, _&&_}
 use mathlib.Core.List.{List}
-use Prim.Native.Nat.{ℕ, _-_}
+use Prim.Native.Nat.{ℕ, _-_, _<_}
+use native.Mathlib.Omega.{arith}
 use lib.ListN.{length, getD}
 use lib.Dec.{eqb, leb}
 use borrow.Author.Tests.{le-leb}
@@ -18,7 +19,7 @@ use Rattle.panels.specs.declared.KRecord.{KRecord}
 use Rattle.decimals.specs.Decimals.{isDigit, decimal}
 use Rattle.kjw_asks.specs.Frames.{lettersOf, typeControl, blank}
 use Rattle.kjw_asks.specs.Asks.{stateNamed, toggleOf, controlBy, controlOf, enquiryBy, enquiryOf, isOurs, heardOf}
-use Rattle.kjw_sets.specs.Sets.{switchOf, sceneOf, isVolume, isPadded, kindIn, portIn, inputOf, upTo, volumeOrder, inputOrder, setBy, setOf}
+use Rattle.kjw_sets.specs.Sets.{chosen, choiceOrder, isVolume, isPadded, kindIn, portIn, inputOf, volumeOrder, inputOrder, setBy, setOf}
 use Rattle.kjw_asks.specs.declared.Named.{Named}
 use Rattle.kjw_asks.specs.declared.Named.the-variants.{Is, Nothing}
 use Rattle.kjw.specs.Orders.{flipped, carried}
@@ -29,7 +30,12 @@ use Rattle.kjw_sets.specs.declared.Order.{Order}
 use Rattle.kjw_sets.specs.declared.Order.the-variants.{SetPower, TogglePower, SetAudioMute, SetPictureMute, TogglePictureMute, SetVolume, SetInput, SetScene, Ask}
 use Rattle.kjw_sets.specs.declared.Heard.{Heard}
 use Rattle.kjw_sets.specs.declared.Heard.the-variants.{Refused, NotUnderstood, Understood}
-use Rattle.kjw_sets.proofs.Parameters.{volume-most}
+use Rattle.kjw_sets.specs.Words.{switches, scenes}
+use Rattle.kjw_sets.specs.declared.Choice.{Choice}
+use Rattle.kjw_sets.specs.declared.Choice.the-variants as choices
+use Rattle.kjw_sets.proofs.Parameters.{Chose, volume-most}
+use Rattle.kjw_values.specs.Values.{switchWord, sceneWord}
+use Rattle.kjw_values.proofs.Words.{switch-chosen, scene-chosen}
 
 -- an order whose numbers are in their ranges
 abbrev inRange : Order → Bool
@@ -51,9 +57,12 @@ sound (Understood o) = inRange o
 abbrev Sound : Heard → Type 0
 Sound h = sound h ≡ true
 
-up-to-sound : (most v : ℕ) (o : Order) → (leb v most ≡ true → inRange o ≡ true) → Sound (upTo most v o)
-unfolding upTo
-up-to-sound most v o h = choose Sound (leb v most) (Understood o) NotUnderstood h (λ e. refl)
+word-sound : (order : ℕ → Order) (word : ℕ → List ℕ) (below : ℕ) (p : List ℕ) (c : Choice) → Chose word below p c → ((v : ℕ) → v < below → inRange (order v) ≡ true) → Sound (choiceOrder order c)
+word-sound order word below p (choices.Is v) h f = f v (h .0)
+word-sound order word below p choices.Nothing h f = refl
+
+switch-sound : (v : ℕ) → v < 2 → leb v 1 ≡ true
+switch-sound v h = le-leb v 1 (omega arith)
 
 volume-sound : (p : List ℕ) → Sound (volumeOrder p)
 unfolding volumeOrder
@@ -68,12 +77,12 @@ input-sound p =
 
 by-sound : (s : State) (p : List ℕ) → Sound (setBy s p)
 unfolding setBy
-by-sound Power p = up-to-sound 1 (switchOf p) (SetPower (switchOf p)) (λ e. e)
-by-sound AudioMute p = up-to-sound 1 (switchOf p) (SetAudioMute (switchOf p)) (λ e. e)
-by-sound PictureMute p = up-to-sound 1 (switchOf p) (SetPictureMute (switchOf p)) (λ e. e)
+by-sound Power p = word-sound SetPower switchWord 2 p (chosen switches p) (switch-chosen p) switch-sound
+by-sound AudioMute p = word-sound SetAudioMute switchWord 2 p (chosen switches p) (switch-chosen p) switch-sound
+by-sound PictureMute p = word-sound SetPictureMute switchWord 2 p (chosen switches p) (switch-chosen p) switch-sound
 by-sound Volume p = volume-sound p
 by-sound Input p = input-sound p
-by-sound Scene p = up-to-sound lastScene (sceneOf p) (SetScene (sceneOf p)) (λ e. e)
+by-sound Scene p = word-sound SetScene sceneWord 3 p (chosen scenes p) (scene-chosen p) (λ v h. le-leb v lastScene (omega arith))
 
 set-sound : (s : State) (p : List ℕ) → Sound (setOf s p)
 unfolding setOf

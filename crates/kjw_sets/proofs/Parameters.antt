@@ -1,21 +1,37 @@
--- What the tests of VOLU and INPT say of the parameters that pass them: by the sides of an `&&` that says yes.
-use mathlib.Core.Path.{_≡_}
+-- What the parameters are that pass: by the sides of an `&&` that says yes, and word by word.
+use mathlib.Core.Path.{_≡_, sym}
 use mathlib.Core.Bool.{true, _&&_}
 use mathlib.Core.List.{List}
-use Prim.Native.Nat.{ℕ, _≤_, _<_}
+use Prim.Native.Nat.{ℕ, zero, suc, _+_, _≤_, _<_}
 use native.Mathlib.Omega.{arith}
 use lib.ListN.{length}
 use lib.Dec.{leb}
 use borrow.Author.Tests.{leb-true, eq-eqb}
 use Rattle.laws.specs.Bytes.{ascii, part, same}
-use Rattle.laws.specs.Lists.{every}
-use Rattle.laws.proofs.Conditions.{and-first, and-second}
+use Rattle.laws.specs.Lists.{every, places}
+use Rattle.laws.proofs.Conditions.{and-first, and-second, choose}
 use Rattle.laws.proofs.Lists.{same-is, part-length}
 use Rattle.panels.specs.Records.{mostVolume}
 use Rattle.decimals.specs.Decimals.{isDigit, decimal}
 use Rattle.decimals.proofs.Decimals.{decimal-fits}
-use Rattle.kjw_sets.specs.Sets.{isVolume, isPadded, kindIn, portIn, setBy, setOf}
+use Rattle.kjw_sets.specs.Sets.{chosenFrom, isVolume, isPadded, kindIn, portIn, setBy, setOf}
+use Rattle.kjw_sets.specs.declared.Choice.{Choice}
+use Rattle.kjw_sets.specs.declared.Choice.the-variants.{Is, Nothing}
 use Rattle.kjw_sets.specs.declared.State.{State}
+
+-- parameters that are the word of a number below so much, or no word
+abbrev pub Chose : (ℕ → List ℕ) → ℕ → List ℕ → Choice → Type 0
+Chose word below p (Is v) = (v < below) × (word v ≡ p)
+Chose word below p Nothing = Unit {0}
+
+-- what is chosen among the words of n numbers is one of these numbers, and its word is what was read
+pub chosen-word : (word : ℕ → List ℕ) (below n i : ℕ) (p : List ℕ) → i + n ≤ below → Chose word below p (chosenFrom i (places n i word) p)
+unfolding chosenFrom
+chosen-word word below zero i p h = tt
+chosen-word word below (suc n) i p h =
+    choose (Chose word below p) (same p (word i)) (Is i) (chosenFrom (i + 1) (places n (i + 1) word) p)
+    (λ e. (omega arith, sym (same-is p (word i) e)))
+    (λ e. chosen-word word below n (i + 1) p (omega arith))
 
 pub volume-digits : (p : List ℕ) → isVolume p ≡ true → every isDigit p ≡ true
 unfolding isVolume

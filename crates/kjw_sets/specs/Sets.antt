@@ -1,15 +1,17 @@
 -- Document 01, "KJW (003)": what a control with a state's letters orders.
-use Prim.Native.Nat.{ℕ}
+use Prim.Native.Nat.{ℕ, _+_}
 use mathlib.Core.Bool.{Bool, cond, _&&_}
-use mathlib.Core.List.{List}
+use mathlib.Core.List.{List, [], _∷_}
 use lib.ListN.{length}
 use lib.Dec.{eqb, leb}
 use Rattle.laws.specs.Bytes.{ascii, part, same}
 use Rattle.laws.specs.Lists.{every}
-use Rattle.panels.specs.Records.{mostVolume, lastScene}
+use Rattle.panels.specs.Records.{mostVolume}
 use Rattle.panels.specs.Valid.{okInput}
 use Rattle.decimals.specs.Decimals.{isDigit, decimal}
-use Rattle.kjw_sets.specs.Words.{off, on, auto, autoSync, general}
+use Rattle.kjw_sets.specs.Words.{switches, scenes}
+use Rattle.kjw_sets.specs.declared.Choice.{Choice}
+use Rattle.kjw_sets.specs.declared.Choice.the-variants.{Is, Nothing}
 use Rattle.kjw_sets.specs.declared.State.{State}
 use Rattle.kjw_sets.specs.declared.State.the-variants.{Power, AudioMute, PictureMute, Volume, Input, Scene}
 use Rattle.kjw_sets.specs.declared.Order.{Order}
@@ -17,13 +19,19 @@ use Rattle.kjw_sets.specs.declared.Order.the-variants.{SetPower, SetAudi
 use Rattle.kjw_sets.specs.declared.Heard.{Heard}
 use Rattle.kjw_sets.specs.declared.Heard.the-variants.{NotUnderstood, Understood}
 
--- "fifteen `0` and 0 or 1": the switch that is written, 2 where it is none
-unfoldable pub switchOf : List ℕ → ℕ
-switchOf p = cond (same p off) 0 (cond (same p on) 1 2)
+-- POWR, AMUT, PMUT and SCEN have words: which of some words the parameters are, where the first has the number i
+unfoldable pub chosenFrom : ℕ → List (List ℕ) → List ℕ → Choice
+chosenFrom i [] p = Nothing
+chosenFrom i (w ∷ ws) p = cond (same p w) (Is i) (chosenFrom (i + 1) ws p)
 
--- "`auto`, `auto24pSync` or `general`, padded with `#`": the scene's number, 3 where it is none
-unfoldable pub sceneOf : List ℕ → ℕ
-sceneOf p = cond (same p auto) 0 (cond (same p autoSync) 1 (cond (same p general) 2 3))
+-- which they are: the first has the number 0
+abbrev pub chosen : List (List ℕ) → List ℕ → Choice
+chosen ws p = chosenFrom 0 ws p
+
+-- the order with the number of the word
+abbrev pub choiceOrder : (ℕ → Order) → Choice → Heard
+choiceOrder order (Is v) = Understood (order v)
+choiceOrder order Nothing = NotUnderstood
 
 -- "VOLU, 16 decimal digits, 0 to 100 (house)"
 unfoldable pub isVolume : List ℕ → Bool
@@ -50,18 +58,14 @@ unfoldable pub inputOrder : List ℕ → Heard
 inputOrder p =
     cond (isPadded p && every isDigit (kindIn p) && every isDigit (portIn p)) (inputOf (decimal (kindIn p)) (decimal (portIn p))) NotUnderstood
 
--- an order where its number is at most so much
-unfoldable pub upTo : ℕ → ℕ → Order → Heard
-upTo most v o = cond (leb v most) (Understood o) NotUnderstood
-
--- what sixteen parameters make of a state
+-- what sixteen parameters make of a state; "All else: 6."
 unfoldable pub setBy : State → List ℕ → Heard
-setBy Power p = upTo 1 (switchOf p) (SetPower (switchOf p))
-setBy AudioMute p = upTo 1 (switchOf p) (SetAudioMute (switchOf p))
-setBy PictureMute p = upTo 1 (switchOf p) (SetPictureMute (switchOf p))
+setBy Power p = choiceOrder SetPower (chosen switches p)
+setBy AudioMute p = choiceOrder SetAudioMute (chosen switches p)
+setBy PictureMute p = choiceOrder SetPictureMute (chosen switches p)
 setBy Volume p = volumeOrder p
 setBy Input p = inputOrder p
-setBy Scene p = upTo lastScene (sceneOf p) (SetScene (sceneOf p))
+setBy Scene p = choiceOrder SetScene (chosen scenes p)
 
 -- C with a state's letters: what the "16 parameters" order; any other number of them nothing
 unfoldable pub setOf : State → List ℕ → Heard

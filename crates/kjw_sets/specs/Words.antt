@@ -1,6 +1,6 @@
 -- Document 01, "KJW (003)": the letters of the states, and the words of a control's parameters.
 use Prim.Native.Nat.{ℕ}
-use mathlib.Core.List.{List}
+use mathlib.Core.List.{List, [], _∷_}
 use Rattle.laws.specs.Bytes.{ascii}
 use Rattle.kjw_sets.specs.declared.State.{State}
 use Rattle.kjw_sets.specs.declared.State.the-variants.{Power, AudioMute, PictureMute, Volume, Input, Scene}
@@ -21,6 +21,9 @@ off = ascii "0000000000000000"
 abbrev pub on : List ℕ
 on = ascii "0000000000000001"
 
+abbrev pub switches : List (List ℕ)
+switches = off ∷ on ∷ []
+
 -- "SCEN `auto`, `auto24pSync` or `general`, padded with `#`"
 abbrev pub auto : List ℕ
 auto = ascii "auto############"
@@ -30,3 +33,6 @@ autoSync = ascii "auto24pSync#####"
 
 abbrev pub general : List ℕ
 general = ascii "general#########"
+
+abbrev pub scenes : List (List ℕ)
+scenes = auto ∷ autoSync ∷ general ∷ []

@@ -9,8 +9,8 @@ use terms::Answer;
 ghost use mathlib.Core.Path.{_≡_};
 ghost use Prim.Native.Nat.{_≤_};
 ghost use lib.ListN.{length};
-ghost use Rattle.kjw_sets.specs.Sets.{switchOf, sceneOf, upTo, volumeOrder, isPadded, inputOf, inputOrder, setOf};
-ghost use Rattle.kjw_sets.specs.Words.{stateLetters};
+ghost use Rattle.kjw_sets.specs.Sets.{chosen, choiceOrder, volumeOrder, isPadded, inputOf, inputOrder, setOf};
+ghost use Rattle.kjw_sets.specs.Words.{stateLetters, switches, scenes};
 
 // What an enquiry asks for and a notice tells: POWR, AMUT, PMUT, VOLU, INPT, SCEN.
 pub enum State {
@@ -42,6 +42,12 @@ pub enum Heard {
     Understood(Order),
 }
 
+// Which of a state's words the parameters are, if they are one: the first word's number is 0.
+pub enum Choice {
+    Is(u8),
+    Nothing,
+}
+
 // A state's letters.
 pub fn state_letters(s: State) -> [u8; 4]
     ensures { λ r. ⌜ r ≡ stateLetters s ⌝ }
@@ -56,43 +62,33 @@ pub fn state_letters(s: State) -> [u8; 4]
     }
 }
 
-// "Fifteen `0` and 0 or 1"; 2 where it is neither.
-fn switch_of(p: &[u8]) -> u8
-    ensures { λ r. ⌜ r ≡ switchOf (now (p .entry)) ⌝ }
+// "Fifteen `0` and 0 or 1."
+fn switch_of(p: &[u8]) -> Choice
+    ensures { λ r. ⌜ r ≡ chosen switches (now (p .entry)) ⌝ }
 {
     if same_bytes(p, b"0000000000000000") {
-        return 0;
+        return Choice::Is(0);
     }
     if same_bytes(p, b"0000000000000001") {
-        return 1;
+        return Choice::Is(1);
     }
-    2
+    Choice::Nothing
 }
 
-// "`auto`, `auto24pSync` or `general`, padded with `#`"; 3 where it is none of them.
-fn scene_of(p: &[u8]) -> u8
-    ensures { λ r. ⌜ r ≡ sceneOf (now (p .entry)) ⌝ }
+// "SCEN `auto`, `auto24pSync` or `general`, padded with `#`."
+fn scene_order(p: &[u8]) -> Heard
+    ensures { λ r. ⌜ r ≡ choiceOrder Order.SetScene (chosen scenes (now (p .entry))) ⌝ }
 {
     if same_bytes(p, b"auto############") {
-        return 0;
+        return Heard::Understood(Order::SetScene(0));
     }
     if same_bytes(p, b"auto24pSync#####") {
-        return 1;
+        return Heard::Understood(Order::SetScene(1));
     }
     if same_bytes(p, b"general#########") {
-        return 2;
+        return Heard::Understood(Order::SetScene(2));
     }
-    3
-}
-
-// An order, where its number is at most so much.
-fn up_to(most: u8, v: u8, o: Order) -> Heard
-    ensures { λ r. ⌜ r ≡ upTo most v o ⌝ }
-{
-    if most < v {
-        return Heard::NotUnderstood;
-    }
-    Heard::Understood(o)
+    Heard::NotUnderstood
 }
 
 // "VOLU, 16 decimal digits, 0 to 100 (house)."
@@ -161,23 +157,20 @@ pub fn set_order(s: State, p: &[u8]) -> Heard
         return Heard::NotUnderstood;
     }
     match s {
-        State::Power => {
-            let v = switch_of(p);
-            up_to(1, v, Order::SetPower(v))
-        }
-        State::AudioMute => {
-            let v = switch_of(p);
-            up_to(1, v, Order::SetAudioMute(v))
-        }
-        State::PictureMute => {
-            let v = switch_of(p);
-            up_to(1, v, Order::SetPictureMute(v))
-        }
+        State::Power => match switch_of(p) {
+            Choice::Is(v) => Heard::Understood(Order::SetPower(v)),
+            Choice::Nothing => Heard::NotUnderstood,
+        },
+        State::AudioMute => match switch_of(p) {
+            Choice::Is(v) => Heard::Understood(Order::SetAudioMute(v)),
+            Choice::Nothing => Heard::NotUnderstood,
+        },
+        State::PictureMute => match switch_of(p) {
+            Choice::Is(v) => Heard::Understood(Order::SetPictureMute(v)),
+            Choice::Nothing => Heard::NotUnderstood,
+        },
         State::Volume => volume_order(p),
         State::Input => input_order(p),
-        State::Scene => {
-            let v = scene_of(p);
-            up_to(2, v, Order::SetScene(v))
-        }
+        State::Scene => scene_order(p),
     }
 }

@@ -1,7 +1,7 @@
 -- `switch_of` compares with the two words in turn.
 use mathlib.Core.Path.{sym}
 use borrow.Author.Needs.{needs}
-use Rattle.kjw_sets.specs.Sets.{switchOf}
+use Rattle.kjw_sets.specs.Sets.{chosenFrom}
 use Rattle.kjw_sets.proofs.switch_of.Statement.{statement}
 use Rattle.kjw_sets.proofs.switch_of.Tie as tie
 
@@ -12,7 +12,7 @@ same-bytes-requires : tie.Need-same-bytes-requires
 same-bytes-requires c κs = search needs
 
 returns : tie.Need-returns
-unfolding switchOf
+unfolding chosenFrom
 returns c = sym (rw (← c .before .same-bytes .ensures, c .if1 .taken))
 
 slice-aggregate-same-bytes-2 : tie.Need-slice-aggregate-same-bytes-2
@@ -22,11 +22,11 @@ same-bytes-requires-2 : tie.Need-same-bytes-requires-2
 same-bytes-requires-2 c κs = search needs
 
 returns-2 : tie.Need-returns-2
-unfolding switchOf
+unfolding chosenFrom
 returns-2 c = sym (rw (← c .before .before .before .before .same-bytes .ensures, c .before .before .before .if1 .left, ← c .before .same-bytes2 .ensures, c .if2 .taken))
 
 returns-3 : tie.Need-returns-3
-unfolding switchOf
+unfolding chosenFrom
 returns-3 c = sym (rw (← c .before .before .before .before .same-bytes .ensures, c .before .before .before .if1 .left, ← c .before .same-bytes2 .ensures, c .if2 .left))
 
 pub switch-of-spec : {M : Type 1} → statement M

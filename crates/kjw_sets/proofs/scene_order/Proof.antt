@@ -1,9 +1,9 @@
--- `scene_of` compares with the three words in turn.
+-- `scene_order` compares with the three words in turn.
 use mathlib.Core.Path.{sym}
 use borrow.Author.Needs.{needs}
-use Rattle.kjw_sets.specs.Sets.{sceneOf}
-use Rattle.kjw_sets.proofs.scene_of.Statement.{statement}
-use Rattle.kjw_sets.proofs.scene_of.Tie as tie
+use Rattle.kjw_sets.specs.Sets.{chosenFrom}
+use Rattle.kjw_sets.proofs.scene_order.Statement.{statement}
+use Rattle.kjw_sets.proofs.scene_order.Tie as tie
 
 slice-aggregate-same-bytes : tie.Need-slice-aggregate-same-bytes
 slice-aggregate-same-bytes c = search needs
@@ -12,7 +12,7 @@ same-bytes-requires : tie.Need-same-bytes-requires
 same-bytes-requires c κs = search needs
 
 returns : tie.Need-returns
-unfolding sceneOf
+unfolding chosenFrom
 returns c = sym (rw (← c .before .same-bytes .ensures, c .if1 .taken))
 
 slice-aggregate-same-bytes-2 : tie.Need-slice-aggregate-same-bytes-2
@@ -22,7 +22,7 @@ same-bytes-requires-2 : tie.Need-same-bytes-requires-2
 same-bytes-requires-2 c κs = search needs
 
 returns-2 : tie.Need-returns-2
-unfolding sceneOf
+unfolding chosenFrom
 returns-2 c = sym (rw (← c .before .before .before .before .same-bytes .ensures, c .before .before .before .if1 .left, ← c .before .same-bytes2 .ensures, c .if2 .taken))
 
 slice-aggregate-same-bytes-3 : tie.Need-slice-aggregate-same-bytes-3
@@ -32,15 +32,15 @@ same-bytes-requires-3 : tie.Need-same-bytes-requires-3
 same-bytes-requires-3 c κs = search needs
 
 returns-3 : tie.Need-returns-3
-unfolding sceneOf
+unfolding chosenFrom
 returns-3 c = sym (rw (← c .before .before .before .before .before .before .before .same-bytes .ensures, c .before .before .before .before .before .before .if1 .left, ← c .before .before .before .before .same-bytes2 .ensures, c .before .before .before .if2 .left, ← c .before .same-bytes3 .ensures, c .if3 .taken))
 
 returns-4 : tie.Need-returns-4
-unfolding sceneOf
+unfolding chosenFrom
 returns-4 c = sym (rw (← c .before .before .before .before .before .before .before .same-bytes .ensures, c .before .before .before .before .before .before .if1 .left, ← c .before .before .before .before .same-bytes2 .ensures, c .before .before .before .if2 .left, ← c .before .same-bytes3 .ensures, c .if3 .left))
 
-pub scene-of-spec : {M : Type 1} → statement M
-scene-of-spec =
+pub scene-order-spec : {M : Type 1} → statement M
+scene-order-spec =
     tie.close
     (tie.spec
     slice-aggregate-same-bytes
