@@ -51,6 +51,7 @@ static void enter(void)
     called();
 }
 
+/* What is set of a context stands at its front on every machine, so this holds under an emulator too. */
 static void measure(uint8_t paint)
 {
     static ucontext_t here, there;
