@@ -1,22 +1,19 @@
 -- What a host may count on at every way number: each is one of the four steps or no way at all, and each of these keeps it.
 use mathlib.Core.Path.{_≡_, refl, sym, ap, _∙_}
-use mathlib.Core.Bool.{Bool, true, false}
-use mathlib.Core.List.{List}
-use Prim.Native.Nat.{ℕ}
-use lib.Dec.{ltb}
-use lib.ListN.{length}
-use borrow.Author.Tests.{ltb-true, ltb-false, eqb-false}
+use mathlib.Core.Bool.{true, false}
+use mathlib.Core.List.{List, []}
+use Prim.Native.Nat.{ℕ, _<_}
+use borrow.Author.Tests.{eqb-false}
 use Rattle.laws.specs.Lists.{listed}
-use Rattle.terms.specs.declared.Answer.{Answer}
-use Rattle.terms.specs.declared.Answer.the-variants.{AreaTooSmall, NoSuchPanel}
 use Rattle.panels.specs.Records.{zeroPanel}
 use Rattle.panels.specs.Valid.{valid}
 use Rattle.panels.specs.declared.DisplayBox.{DisplayBox}
 use Rattle.steps.specs.Messages.{Message, rs232c, kjw, tcp, udp}
-use Rattle.steps.specs.Step.{messageAnswers, Outcome, Back, step, refused}
+use Rattle.steps.specs.Step.{messageAnswers, Outcome, Back, back, step}
 use Rattle.steps.proofs.Numbered as steps
 use Rattle.steps.proofs.Door.{Lends, by-rs232c, by-kjw, by-tcp}
-use Rattle.steps.proofs.Refusals.{none-sent, refused-leaves, too-small, bad-lent, bad-udp}
+use Rattle.steps.proofs.Validity.{bad-kept}
+use Rattle.steps.proofs.Refusals.{refused-leaves, udp-quiet, early-quiet, none-sent, bad-quiet}
 use Rattle.host_box.specs.Called.{Called, inNumbers, noWay, wayOf, calledBy, called, numbersOf, panelBehind}
 use Rattle.addresses.specs.declared.Line.the-variants.{Rs232c, Kjw, Tcp}
 use Rattle.ways_in.specs.Promise.{withArea, unanswered}
@@ -58,30 +55,31 @@ module _ (b : DisplayBox) (way link : ℕ) (m area : List ℕ) where
   abbrev Untouched : Called → Type 0
   Untouched c = (c .box ≡ b) × ((c .len ≡ 0) × (c .area ≡ area))
 
-  untouched : (msg : Message) (a : Answer) → Lends link area msg → step b msg ≡ refused b msg a → Untouched (lent (step b msg))
-  untouched msg a k e = (
-    ap (λ (o : Outcome). o .box) e,
-    (
-      ap (λ (o : Outcome). o .back .len) e ∙ ap (λ (x : Back). x .len) (none-sent link area msg k),
-      ap (λ (o : Outcome). o .back .area) e ∙ ap (λ (x : Back). x .area) (none-sent link area msg k),
-    ),
-  )
+  untouched : (msg : Message) → Lends link area msg → step b msg .box ≡ b → step b msg .back ≡ back msg [] → Untouched (lent (step b msg))
+  untouched msg k p q = let e = q ∙ none-sent link area msg k in (p, (ap (λ (x : Back). x .len) e, ap (λ (x : Back). x .area) e))
 
-  bad-untouched : valid b ≡ false → (msg : Message) → Lends link area msg → Untouched (lent (step b msg))
-  bad-untouched v msg k = go (ltb (length area) 512) refl
-    where
-      go : (t : Bool) → ltb (length area) 512 ≡ t → Untouched (lent (step b msg))
-      go true e = untouched msg AreaTooSmall k (too-small b link area msg k (ltb-true (length area) 512 e))
-      go false e = untouched msg NoSuchPanel k (bad-lent b link area msg v k (ltb-false (length area) 512 e))
+  untouched-udp : step b (udp m) .box ≡ b → Untouched (inNumbers (unanswered (step b (udp m)) area))
+  untouched-udp p = (p, (ap (λ (x : Back). x .len) (udp-quiet b m), refl))
+
+  -- "none" as the reply and "unchanged" stand beside the answers 1 to 4: box and area are as they came, whatever the number of the way
+  pub early-untouched : (called b way link m area .answer ≡ 0 → ⊥) → called b way link m area .answer < 5 → Untouched (called b way link m area)
+  early-untouched =
+      at-every (λ (c : Called). (c .answer ≡ 0 → ⊥) → c .answer < 5 → Untouched c) (λ msg k z h. untouched msg k (refused-leaves b msg z) (early-quiet b msg z h))
+      (λ z h. untouched-udp (refused-leaves b (udp m) z))
+      (λ z h. (refl, (refl, refl)))
 
   -- "A box handed in that breaks these rules [..] is [..] given back as it came", bit for bit, whatever the way
   pub garbage : valid b ≡ false → Untouched (called b way link m area)
   garbage v =
-      at-every Untouched (bad-untouched v)
-      (ap (λ (o : Outcome). o .box) (bad-udp b m v), (ap (λ (o : Outcome). o .back .len) (bad-udp b m v), refl))
-      (refl, (refl, refl))
+      at-every Untouched (λ msg k. untouched msg k (bad-kept b msg v) (bad-quiet b msg v))
+      (untouched-udp (bad-kept b (udp m) v)) (refl, (refl, refl))
 
 -- and it shows no panel
 pub garbage-panel : (b : DisplayBox) (link : ℕ) → valid b ≡ false → panelBehind b link ≡ zeroPanel
 unfolding panelBehind
 garbage-panel b link v = rw v
+
+-- "none by UDP": at way 4 there is no reply and the area is as it came, whatever the answer
+pub udp-untouched : (b : DisplayBox) (link : ℕ) (m area : List ℕ) → (called b 4 link m area .len ≡ 0) × (called b 4 link m area .area ≡ area)
+unfolding called wayOf
+udp-untouched b link m area = (ap (λ (x : Back). x .len) (udp-quiet b m), refl)

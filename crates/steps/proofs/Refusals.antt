@@ -24,7 +24,7 @@ use Rattle.steps.specs.Step.{toNobody, door, turn, nothing, back, Outcom
 use Rattle.steps.proofs.Sound.{sound}
 use Rattle.steps.proofs.Door.{Lends, by-rs232c, by-kjw, by-tcp, no-link, nobody-shut, speaks, nobody-speaks, lent-door, by-door}
 use Rattle.steps.proofs.Turns.{own-answer}
-use Rattle.steps.proofs.Validity.{bad-names}
+use Rattle.steps.proofs.Validity.{bad-names, bad-shut}
 
 -- ---- every answer but 0 leaves the box
 
@@ -89,6 +89,10 @@ bad-lent b l area m v k h =
 pub bad-udp : (b : DisplayBox) (m : List ℕ) → valid b ≡ false → step b (udp m) ≡ refused b (udp m) (toNobody m)
 unfolding door
 bad-udp b m v = stopped b (udp m) (toNobody m) (rw (bad-names b v)) (nobody-shut m)
+
+-- nothing goes back from it
+pub bad-quiet : (b : DisplayBox) (m : Message) → valid b ≡ false → step b m .back ≡ back m []
+bad-quiet b m v = by-door (λ (o : Outcome). o .back ≡ back m []) b m (λ e. absurd (false-true (sym (bad-shut b m v) ∙ e))) (λ e. refl)
 
 -- "A box holds 1 to 8 panels": a box of none is such a box
 pub no-panels : (b : DisplayBox) → b .count ≡ 0 → valid b ≡ false
