@@ -8,7 +8,7 @@ use Rattle.sums.specs.Sums.{sumOf}
 use Rattle.panels.specs.Records.{noBox}
 use Rattle.configure.specs.Configure.{askedAt, asked, configured}
 use Rattle.panels.specs.Valid.{zeroIds, okFamily, okPanel, valid}
-use Rattle.script_words.specs.Words.{words, numberAt, bytesIn, bytesAt}
+use Rattle.script_words.specs.Words.{wordsIn, numberAt, bytesIn, bytesAt}
 use Rattle.script_hex.specs.Hex.{isHexDigit, hexValue, isHex}
 use Rattle.script_words.specs.Kinds.{isFamily, isKind, shaped}
 use Rattle.script_lines.specs.Orders.{asks, panelKinds, asksBox, orderIn, isPassedOver, orderOf}
@@ -24,17 +24,17 @@ unfolding answered ordered orderOf isPassedOver
 passed = refl
 
 no-order : answered noBox (ascii "sum 0 ") ≡ record { box = noBox; text = ascii "unread" ++ (0x0a ∷ []) }
-unfolding answered ordered orderOf isPassedOver asksBox panelsIn words asks orderIn shaped isKind isHex isHexDigit isDigit writes
+unfolding answered ordered orderOf isPassedOver asksBox panelsIn wordsIn asks orderIn shaped isKind isHex isHexDigit isDigit writes
 no-order = refl
 
 a-sum : answered noBox (ascii "sum 01fF") .text ≡ ascii "yes" ++ (0x0a ∷ [])
-unfolding answered ordered orderOf isPassedOver asksBox panelsIn words asks orderIn shaped isKind isHex isHexDigit isDigit writes summed bytesAt bytesIn hexValue sumOf
+unfolding answered ordered orderOf isPassedOver asksBox panelsIn wordsIn asks orderIn shaped isKind isHex isHexDigit isDigit writes summed bytesAt bytesIn hexValue sumOf
 a-sum = refl
 
 nothing-there : answered noBox (ascii "show 1") .text ≡ ascii "none" ++ (0x0a ∷ [])
-unfolding answered ordered orderOf isPassedOver asksBox panelsIn words asks orderIn shaped isKind isNumeral leadsZero upTo isDigit decimal numberAt isHex writes shownAt isThere
+unfolding answered ordered orderOf isPassedOver asksBox panelsIn wordsIn asks orderIn shaped isKind isNumeral leadsZero upTo isDigit decimal numberAt isHex writes shownAt isThere
 nothing-there = refl
 
 bad-box : answered noBox (ascii "box K 0 1") ≡ record { box = noBox; text = ascii "box 7" ++ (0x0a ∷ []) }
-unfolding answered ordered orderOf isPassedOver asksBox panelsIn panelKinds words asks orderIn shaped isKind isFamily isNumeral leadsZero upTo isDigit decimal numberAt writes boxed configurationOf configuration configured asked askedAt valid okPanel okFamily zeroIds numberText plain width widthFrom inDigits
+unfolding answered ordered orderOf isPassedOver asksBox panelsIn panelKinds wordsIn asks orderIn shaped isKind isFamily isNumeral leadsZero upTo isDigit decimal numberAt writes boxed configurationOf configuration configured asked askedAt valid okPanel okFamily zeroIds numberText plain width widthFrom inDigits
 bad-box = refl

@@ -8,7 +8,7 @@ use Rattle.steps.specs.Messages.{udp}
 use Rattle.steps.specs.Step.{step}
 use Rattle.sdap.specs.Rules.{readOf}
 use Rattle.script_words.specs.Words.{numberAt, bytesAt}
-use Rattle.script_words.specs.Kinds.{any, area}
+use Rattle.script_words.specs.Kinds.{mostN, mostArea}
 use Rattle.script_boxes.specs.Boxes.{configurationOf}
 use Rattle.script_lines.specs.Orders.{orderOf}
 use Rattle.script_lines.specs.declared.Order.{Order}
@@ -29,9 +29,9 @@ ordered Rs232 b line = messaged lines.Rs232c b line
 ordered Kjw b line = messaged lines.Kjw b line
 ordered Tcp b line = messaged lines.Tcp b line
 ordered Udp b line = spread (step b (udp (bytesAt 1 line)))
-ordered Show b line = writes b (shownAt b (numberAt any 1 line))
+ordered Show b line = writes b (shownAt b (numberAt mostN 1 line))
 ordered Advert b line = writes b (readText (readOf (bytesAt 1 line)))
-ordered Write b line = writes b (wrote (wanted line) (filler (numberAt area 1 line)))
+ordered Write b line = writes b (wrote (wanted line) (filler (numberAt mostArea 1 line)))
 ordered Sum b line = writes b (summed (bytesAt 1 line))
 
 unfoldable pub answered : DisplayBox → List ℕ → Effect

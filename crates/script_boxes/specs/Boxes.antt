@@ -4,11 +4,11 @@ use mathlib.Core.Bool.{cond}
 use mathlib.Core.List.{List, [], _∷_}
 use lib.Dec.{leb}
 use lib.ListN.{length, getD}
-use Rattle.script_words.specs.Words.{words, wordAt, numberAt}
+use Rattle.script_words.specs.Words.{wordsIn, wordAt, numberAt}
 
 -- three words a panel
 unfoldable pub panelsIn : List ℕ → ℕ
-panelsIn line = (length (words line) - 1) / 3
+panelsIn line = (length (wordsIn line) - 1) / 3
 
 -- the configuration of n panels from word k on: the family's letter, the group and the unit of each
 unfoldable pub configuration : ℕ → ℕ → List ℕ → List ℕ

@@ -5,7 +5,7 @@ use Prim.Native.String.{String}
 use lib.ListN.{replicate}
 use Rattle.laws.specs.Bytes.{ascii}
 use Rattle.decimals.specs.Decimals.{isDigit, decimal, leadsZero, isNumeral, upTo}
-use Rattle.script_words.specs.Words.{words, bytesIn, bytesAt, numberAt}
+use Rattle.script_words.specs.Words.{wordsIn, bytesIn, bytesAt, numberAt}
 use Rattle.script_hex.specs.Hex.{isHexDigit, hexValue, isHex}
 use Rattle.script_words.specs.Kinds.{isFamily, isKind, shaped}
 use Rattle.script_lines.specs.Orders.{asks, panelKinds, asksBox, orderIn, isPassedOver, orderOf}
@@ -27,7 +27,7 @@ read =
     "write 122 11 4c4d 3106846 0 - 0 0 0 0 0 0 - - 1 1" ∷ []
 
 taken : orders read ≡ Box ∷ Box ∷ Rs232 ∷ Kjw ∷ Tcp ∷ Udp ∷ Show ∷ Advert ∷ Sum ∷ Write ∷ []
-unfolding read orders orderOf isPassedOver asksBox asks panelsIn panelKinds words shaped isKind isFamily isHex isHexDigit isDigit upTo isNumeral leadsZero decimal orderIn
+unfolding read orders orderOf isPassedOver asksBox asks panelsIn panelKinds wordsIn shaped isKind isFamily isHex isHexDigit isDigit upTo isNumeral leadsZero decimal orderIn
 taken = refl
 
 -- no orders: a space too many, too few words, too many, a leading zero, a number too large, an odd number of digits, capitals, a tab
@@ -38,7 +38,7 @@ unread =
     "show 4294967296" ∷ "show -1" ∷ "tcp 1 1025 00" ∷ []
 
 refused : orders unread ≡ replicate 17 Unread
-unfolding unread orders orderOf isPassedOver asksBox asks panelsIn panelKinds words shaped isKind isFamily isHex isHexDigit isDigit upTo isNumeral leadsZero decimal orderIn
+unfolding unread orders orderOf isPassedOver asksBox asks panelsIn panelKinds wordsIn shaped isKind isFamily isHex isHexDigit isDigit upTo isNumeral leadsZero decimal orderIn
 refused = refl
 
 -- nothing to do
@@ -48,17 +48,17 @@ passed-over = refl
 
 -- what words write
 bytes : bytesAt 3 (ascii "tcp 1 512 0aFF") ≡ 10 ∷ 255 ∷ []
-unfolding words bytesAt isHex isHexDigit isDigit bytesIn hexValue
+unfolding wordsIn bytesAt isHex isHexDigit isDigit bytesIn hexValue
 bytes = refl
 
 no-bytes : bytesAt 1 (ascii "udp -") ≡ []
-unfolding words bytesAt isHex isHexDigit isDigit bytesIn hexValue
+unfolding wordsIn bytesAt isHex isHexDigit isDigit bytesIn hexValue
 no-bytes = refl
 
 area-of : numberAt 1024 2 (ascii "tcp 1 512 0aFF") ≡ 512
-unfolding words numberAt upTo isNumeral leadsZero isDigit decimal
+unfolding wordsIn numberAt upTo isNumeral leadsZero isDigit decimal
 area-of = refl
 
 two-panels : configurationOf (ascii "box W 1 2 K 0 0") ≡ 0x57 ∷ 1 ∷ 2 ∷ 0x4b ∷ 0 ∷ 0 ∷ []
-unfolding configurationOf configuration panelsIn words numberAt upTo isNumeral leadsZero isDigit decimal
+unfolding configurationOf configuration panelsIn wordsIn numberAt upTo isNumeral leadsZero isDigit decimal
 two-panels = refl

@@ -10,8 +10,10 @@ use Rattle.laws.specs.Bytes.{part, same}
 use Rattle.laws.specs.Lists.{everyBelow}
 use Rattle.laws.proofs.Lists.{behind, from, same-is}
 use Rattle.laws.proofs.Table.{and-left, and-right, below, sure}
-use Rattle.script_lines.specs.Orders.{Row, asks, orderIn, rows}
+use Rattle.script_lines.specs.Orders.{Row, asks, orderIn, orderRows}
 use Rattle.script_words.specs.Words.{before, wordAt}
+use Rattle.script_words.specs.Kinds.{Kind, aHex, aFamily, aNumber}
+use Rattle.script_words.specs.KindNumbers.{kindOf}
 use Rattle.script_lines.specs.declared.Order.the-variants.{Passed, Unread}
 use Rattle.script_words.proofs.Words.{before-take, word-here}
 
@@ -21,13 +23,33 @@ first-word line = before-take 0x20 line ∙ sym (word-here line 0 0 refl)
 -- ---- the rows as the code holds them
 
 abbrev pub many : ℕ
-many = length rows
+many = length orderRows
 
 abbrev none : Row
 none = record { word = []; kinds = []; order = Passed }
 
 abbrev pub rowAt : ℕ → Row
-rowAt i = getD rows i none
+rowAt i = getD orderRows i none
+
+-- a kind's number
+abbrev kindNumber : Kind → ℕ
+kindNumber aHex = 0
+kindNumber aFamily = 1
+kindNumber (aNumber most) = most
+
+abbrev numbers : Row → List ℕ
+numbers r = map kindNumber (r .kinds)
+
+-- the numbers of a row are those of its kinds
+numbers-are : map (λ (r : Row). map kindOf (numbers r)) orderRows ≡ map (λ (r : Row). r .kinds) orderRows
+unfolding kindOf
+numbers-are = refl
+
+kinds-back : (i : ℕ) → map kindOf (numbers (rowAt i)) ≡ rowAt i .kinds
+kinds-back i =
+    sym (List·getD-map (λ (r : Row). map kindOf (numbers r)) orderRows i none)
+    ∙ ap (λ (l : List (List Kind)). getD l i []) numbers-are
+    ∙ List·getD-map (λ (r : Row). r .kinds) orderRows i none
 
 -- the lists of all rows, one behind the other
 abbrev joined : List (List ℕ) → List ℕ
@@ -35,10 +57,10 @@ joined [] = []
 joined (l ∷ ls) = l ++ joined ls
 
 abbrev pub wordTable : List ℕ
-wordTable = joined (map (λ (r : Row). r .word) rows)
+wordTable = joined (map (λ (r : Row). r .word) orderRows)
 
 abbrev pub kindTable : List ℕ
-kindTable = joined (map (λ (r : Row). r .kinds) rows)
+kindTable = joined (map numbers orderRows)
 
 -- where each ends, behind where the first begins
 abbrev ends : ℕ → List (List ℕ) → List ℕ
@@ -46,10 +68,10 @@ ends n [] = n ∷ []
 ends n (l ∷ ls) = n ∷ ends (n + length l) ls
 
 abbrev pub wordEnds : List ℕ
-wordEnds = ends 0 (map (λ (r : Row). r .word) rows)
+wordEnds = ends 0 (map (λ (r : Row). r .word) orderRows)
 
 abbrev pub kindEnds : List ℕ
-kindEnds = ends 0 (map (λ (r : Row). r .kinds) rows)
+kindEnds = ends 0 (map numbers orderRows)
 
 -- the part of a table from one end to the next is the row's list
 abbrev between : List ℕ → List ℕ → ℕ → List ℕ
@@ -86,27 +108,30 @@ pub word-held : (i : ℕ) → i < many → Held wordTable wordEnds i (rowAt i .w
 unfolding held rising right
 word-held = law wordTable wordEnds (λ (r : Row). r .word) tt
 
-pub kinds-held : (i : ℕ) → i < many → Held kindTable kindEnds i (rowAt i .kinds)
+pub kinds-held : (i : ℕ) → i < many → Held kindTable kindEnds i (numbers (rowAt i))
 unfolding held rising right
-kinds-held = law kindTable kindEnds (λ (r : Row). r .kinds) tt
+kinds-held = law kindTable kindEnds numbers tt
 
-pub order-held : (i : ℕ) → getD (map (λ (r : Row). r .order) rows) i Passed ≡ rowAt i .order
-order-held i = List·getD-map (λ (r : Row). r .order) rows i none
+pub order-held : (i : ℕ) → getD (map (λ (r : Row). r .order) orderRows) i Passed ≡ rowAt i .order
+order-held i = List·getD-map (λ (r : Row). r .order) orderRows i none
 
 -- what is asked of the parts is asked of the row
-pub row-asks : (line : List ℕ) (i : ℕ) → i < many → asks (between wordTable wordEnds i) (between kindTable kindEnds i) line ≡ asks (rowAt i .word) (rowAt i .kinds) line
-row-asks line i h = ap (λ (w : List ℕ). asks w (between kindTable kindEnds i) line) (word-held i h .is) ∙ ap (λ (k : List ℕ). asks (rowAt i .word) k line) (kinds-held i h .is)
+pub row-asks : (line : List ℕ) (i : ℕ) → i < many → asks (between wordTable wordEnds i) (map kindOf (between kindTable kindEnds i)) line ≡ asks (rowAt i .word) (rowAt i .kinds) line
+row-asks line i h =
+    ap (λ (w : List ℕ). asks w (map kindOf (between kindTable kindEnds i)) line) (word-held i h .is)
+    ∙ ap (λ (k : List ℕ). asks (rowAt i .word) (map kindOf k) line) (kinds-held i h .is)
+    ∙ ap (λ (k : List Kind). asks (rowAt i .word) k line) (kinds-back i)
 
 -- ---- the rows from i on
 
-pub asked : (line : List ℕ) (i : ℕ) → i < many → asks (rowAt i .word) (rowAt i .kinds) line ≡ true → orderIn (drop i rows) line ≡ rowAt i .order
+pub asked : (line : List ℕ) (i : ℕ) → i < many → asks (rowAt i .word) (rowAt i .kinds) line ≡ true → orderIn (drop i orderRows) line ≡ rowAt i .order
 unfolding orderIn
-asked line i h e = ap (λ (rs : List Row). orderIn rs line) (from rows i none h) ∙ rw e
+asked line i h e = ap (λ (rs : List Row). orderIn rs line) (from orderRows i none h) ∙ rw e
 
-pub not-asked : (line : List ℕ) (i : ℕ) → i < many → asks (rowAt i .word) (rowAt i .kinds) line ≡ false → orderIn (drop i rows) line ≡ orderIn (drop (i + 1) rows) line
+pub not-asked : (line : List ℕ) (i : ℕ) → i < many → asks (rowAt i .word) (rowAt i .kinds) line ≡ false → orderIn (drop i orderRows) line ≡ orderIn (drop (i + 1) orderRows) line
 unfolding orderIn
-not-asked line i h e = ap (λ (rs : List Row). orderIn rs line) (from rows i none h) ∙ rw e
+not-asked line i h e = ap (λ (rs : List Row). orderIn rs line) (from orderRows i none h) ∙ rw e
 
-pub none-asked : (line : List ℕ) (i : ℕ) → many ≤ i → orderIn (drop i rows) line ≡ Unread
+pub none-asked : (line : List ℕ) (i : ℕ) → many ≤ i → orderIn (drop i orderRows) line ≡ Unread
 unfolding orderIn
-none-asked line i h = ap (λ (rs : List Row). orderIn rs line) (behind rows i h)
+none-asked line i h = ap (λ (rs : List Row). orderIn rs line) (behind orderRows i h)

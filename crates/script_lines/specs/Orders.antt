@@ -6,21 +6,21 @@ use mathlib.Core.List.{List, [], _∷_}
 use lib.Dec.{eqb, leb, ltb}
 use lib.ListN.{length, getD, drop}
 use Rattle.laws.specs.Bytes.{ascii, same}
-use Rattle.script_words.specs.Words.{words, wordAt}
+use Rattle.script_words.specs.Words.{wordsIn, wordAt}
 use Rattle.script_lines.specs.declared.Order.{Order}
 use Rattle.script_lines.specs.declared.Order.the-variants.{Passed, Unread, Box, Rs232, Kjw, Tcp, Udp, Show, Advert, Write, Sum}
-use Rattle.script_words.specs.Kinds.{hex, family, any, area, shaped}
+use Rattle.script_words.specs.Kinds.{Kind, aHex, aFamily, aNumber, mostN, mostArea, shaped}
 use Rattle.script_boxes.specs.Boxes.{panelsIn}
 
 -- the order's word, and behind it a word of each kind
-unfoldable pub asks : List ℕ → List ℕ → List ℕ → Bool
-asks name kinds line = same (wordAt 0 line) name && shaped kinds (drop 1 (words line))
+unfoldable pub asks : List ℕ → List Kind → List ℕ → Bool
+asks name kinds line = same (wordAt 0 line) name && shaped kinds (drop 1 (wordsIn line))
 
 -- ---- `box`: "for each panel its family (W or K), group and unit (0 to 255); 0 to 16 panels may be written"
 
-unfoldable pub panelKinds : ℕ → List ℕ
+unfoldable pub panelKinds : ℕ → List Kind
 panelKinds zero = []
-panelKinds (suc n) = family ∷ 255 ∷ 255 ∷ panelKinds n
+panelKinds (suc n) = aFamily ∷ aNumber 255 ∷ aNumber 255 ∷ panelKinds n
 
 unfoldable pub asksBox : List ℕ → Bool
 asksBox line = leb (panelsIn line) 16 && asks (ascii "box") (panelKinds (panelsIn line)) line
@@ -29,33 +29,41 @@ asksBox line = leb (panelsIn line) 16 && asks (ascii "box") (panelKinds (panelsI
 
 pub record Row : Type 0 where
   pub word : List ℕ
-  pub kinds : List ℕ
+  pub kinds : List Kind
   pub order : Order
 
-abbrev pub row : String → List ℕ → Order → Row
+abbrev pub row : String → List Kind → Order → Row
 row word kinds order = record { word = ascii word; kinds = kinds; order = order }
 
+-- "LINK is any N"
+abbrev pub anyN : Kind
+anyN = aNumber mostN
+
+-- "AREA bytes (0 to 1,024)"
+abbrev pub anArea : Kind
+anArea = aNumber mostArea
+
 -- "LINK AREA HEX"
-abbrev pub linked : List ℕ
-linked = any ∷ area ∷ hex ∷ []
+abbrev pub messageKinds : List Kind
+messageKinds = anyN ∷ anArea ∷ aHex ∷ []
 
 -- "AREA CATEGORY PRODUCT SERIAL POWER LOCATION IP IP1 IP2 IP3 IP4 ERROR REGION NAME GROUP UNIT [..] the four texts are HEX, the
 -- rest N (CATEGORY, GROUP, UNIT to 255, POWER, ERROR to 65535)"
-abbrev pub fields : List ℕ
-fields =
-    area ∷ 255 ∷ hex ∷ any ∷ 65535 ∷ hex ∷ any ∷
-    any ∷ any ∷ any ∷ any ∷ 65535 ∷ hex ∷ hex ∷ 255 ∷ 255 ∷ []
+abbrev pub writeKinds : List Kind
+writeKinds =
+    anArea ∷ aNumber 255 ∷ aHex ∷ anyN ∷ aNumber 65535 ∷ aHex ∷ anyN ∷
+    anyN ∷ anyN ∷ anyN ∷ anyN ∷ aNumber 65535 ∷ aHex ∷ aHex ∷ aNumber 255 ∷ aNumber 255 ∷ []
 
-abbrev pub rows : List Row
-rows =
-    row "rs232" linked Rs232 ∷
-    row "kjw" linked Kjw ∷
-    row "tcp" linked Tcp ∷
-    row "udp" (hex ∷ []) Udp ∷
-    row "show" (any ∷ []) Show ∷
-    row "advert" (hex ∷ []) Advert ∷
-    row "write" fields Write ∷
-    row "sum" (hex ∷ []) Sum ∷ []
+abbrev pub orderRows : List Row
+orderRows =
+    row "rs232" messageKinds Rs232 ∷
+    row "kjw" messageKinds Kjw ∷
+    row "tcp" messageKinds Tcp ∷
+    row "udp" (aHex ∷ []) Udp ∷
+    row "show" (anyN ∷ []) Show ∷
+    row "advert" (aHex ∷ []) Advert ∷
+    row "write" writeKinds Write ∷
+    row "sum" (aHex ∷ []) Sum ∷ []
 
 -- "Any other line is answered `unread`"
 unfoldable pub orderIn : List Row → List ℕ → Order
@@ -72,4 +80,4 @@ orderOf line =
     cond (isPassedOver line) Passed
     (cond (ltb 4096 (length line)) Unread
     (cond (asksBox line) Box
-    (orderIn rows line)))
+    (orderIn orderRows line)))

@@ -1,11 +1,14 @@
 // Which order a line of a script is, and the configuration that a `box` line writes (docs/SCRIPTS.md, "Orders").
 use octets::same_bytes;
+ghost use mathlib.Core.List.{map};
 ghost use mathlib.Core.Path.{_≡_};
 ghost use Prim.Native.Nat.{_*_};
-ghost use Rattle.script_lines.specs.Orders.{asks, panelKinds, asksBox, rows, orderIn, isPassedOver, orderOf};
+ghost use Rattle.script_words.specs.KindNumbers.{kindOf};
+ghost use Rattle.script_lines.specs.Orders.{asks, panelKinds, asksBox, orderRows, orderIn, isPassedOver, orderOf};
 use script_boxes::panels_in;
 use script_words::ANY;
 use script_words::AREA;
+use script_words::FAMILY;
 use script_words::HEX;
 use script_words::are_shaped;
 use script_words::length_before;
@@ -27,52 +30,52 @@ pub enum Order {
 
 // The words of sixteen panels.
 const PANELS: [u32; 48] = [
-    1, // family
+    FAMILY,
     255, // group
     255, // unit
-    1, // family
+    FAMILY,
     255, // group
     255, // unit
-    1, // family
+    FAMILY,
     255, // group
     255, // unit
-    1, // family
+    FAMILY,
     255, // group
     255, // unit
-    1, // family
+    FAMILY,
     255, // group
     255, // unit
-    1, // family
+    FAMILY,
     255, // group
     255, // unit
-    1, // family
+    FAMILY,
     255, // group
     255, // unit
-    1, // family
+    FAMILY,
     255, // group
     255, // unit
-    1, // family
+    FAMILY,
     255, // group
     255, // unit
-    1, // family
+    FAMILY,
     255, // group
     255, // unit
-    1, // family
+    FAMILY,
     255, // group
     255, // unit
-    1, // family
+    FAMILY,
     255, // group
     255, // unit
-    1, // family
+    FAMILY,
     255, // group
     255, // unit
-    1, // family
+    FAMILY,
     255, // group
     255, // unit
-    1, // family
+    FAMILY,
     255, // group
     255, // unit
-    1, // family
+    FAMILY,
     255, // group
     255, // unit
 ];
@@ -139,7 +142,7 @@ const KIND_ENDS: [usize; 9] = [0, 3, 6, 9, 10, 11, 12, 28, 29];
 
 // Whether a line is the order of that word, with a word of each kind behind it.
 fn is_asked(line: &[u8], word: &[u8], kinds: &[u32]) -> bool
-    ensures { λ r. ⌜ r ≡ asks (now (word .entry)) (now (kinds .entry)) (now (line .entry)) ⌝ }
+    ensures { λ r. ⌜ r ≡ asks (now (word .entry)) (map kindOf (now (kinds .entry))) (now (line .entry)) ⌝ }
 {
     let n = length_before(b' ', line);
     if !same_bytes(&line[..n], word) {
@@ -150,7 +153,7 @@ fn is_asked(line: &[u8], word: &[u8], kinds: &[u32]) -> bool
 
 // The kinds of sixteen panels' words.
 fn panel_kinds() -> [u32; 48]
-    ensures { λ r. ⌜ r ≡ panelKinds 16 ⌝ }
+    ensures { λ r. ⌜ map kindOf r ≡ panelKinds 16 ⌝ }
 {
     PANELS
 }
@@ -170,7 +173,7 @@ fn is_box(line: &[u8]) -> bool
 // The first row that the line is, and `unread` where it is none. The tables are named once, before the loop: each naming builds
 // one anew.
 fn order_in(line: &[u8]) -> Order
-    ensures { λ r. ⌜ r ≡ orderIn rows (now (line .entry)) ⌝ }
+    ensures { λ r. ⌜ r ≡ orderIn orderRows (now (line .entry)) ⌝ }
 {
     let words = WORDS;
     let word_ends = WORD_ENDS;

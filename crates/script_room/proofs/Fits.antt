@@ -59,7 +59,7 @@ use Rattle.sdap.specs.Rules.{readOf, readAnswer, writeAnswer, areaAfter}
 use Rattle.sdap.specs.declared.Advert.{Advert as Fields}
 use Rattle.sdap.specs.declared.Read.{Read}
 use Rattle.script_words.specs.Words.{numberAt, bytesAt}
-use Rattle.script_words.specs.Kinds.{any, area}
+use Rattle.script_words.specs.Kinds.{mostN, mostArea}
 use Rattle.script_boxes.specs.Boxes.{configurationOf}
 use Rattle.script_lines.specs.Orders.{orderOf}
 use Rattle.script_lines.specs.declared.Order.{Order}
@@ -403,8 +403,8 @@ answer-fits b word v h = let s = said-fits word v in writes-fit b (numberText wo
 message-fits : (by : Line) (b : DisplayBox) (line : List ℕ) → length (messaged by b line .text) ≤ room
 unfolding messaged stepped
 message-fits by b line =
-    let o = step b (messageOf by (numberAt any 1 line) (bytesAt 3 line) (filler (numberAt area 2 line))) in
-    let n = step-replies b (messageOf by (numberAt any 1 line) (bytesAt 3 line) (filler (numberAt area 2 line))) in
+    let o = step b (messageOf by (numberAt mostN 1 line) (bytesAt 3 line) (filler (numberAt mostArea 2 line))) in
+    let n = step-replies b (messageOf by (numberAt mostN 1 line) (bytesAt 3 line) (filler (numberAt mostArea 2 line))) in
     let r = replied-fits (o .answer) (o .back .len) (o .back .area) (omega (arith, n)) in
     writes-fit (o .box) (replied (o .answer) (o .back .len) (o .back .area)) (omega (arith, r))
 
@@ -417,11 +417,11 @@ order-fits Rs232 b line = message-fits lines.Rs232c b line
 order-fits Kjw b line = message-fits lines.Kjw b line
 order-fits Tcp b line = message-fits lines.Tcp b line
 order-fits Udp b line = let o = step b (udp (bytesAt 1 line)) in answer-fits (o .box) (ascii "answer ") (numberOf (o .answer)) (omega arith)
-order-fits Show b line = let s = shown-fits b (numberAt any 1 line) in writes-fit b (shownAt b (numberAt any 1 line)) (omega (arith, s))
+order-fits Show b line = let s = shown-fits b (numberAt mostN 1 line) in writes-fit b (shownAt b (numberAt mostN 1 line)) (omega (arith, s))
 order-fits Advert b line = writes-fit b (readText (readOf (bytesAt 1 line))) (read-fits (readOf (bytesAt 1 line)) (read-short (bytesAt 1 line)))
 order-fits Write b line =
-    let w = wrote-fits (wanted line) (filler (numberAt area 1 line)) in
-    writes-fit b (wrote (wanted line) (filler (numberAt area 1 line))) (omega (arith, w))
+    let w = wrote-fits (wanted line) (filler (numberAt mostArea 1 line)) in
+    writes-fit b (wrote (wanted line) (filler (numberAt mostArea 1 line))) (omega (arith, w))
 order-fits Sum b line =
     let s = either (sumsToZero (bytesAt 1 line)) (ascii "yes") (ascii "no") 1500 (omega arith) (omega arith) in
     writes-fit b (summed (bytesAt 1 line)) s

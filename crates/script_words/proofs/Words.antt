@@ -9,7 +9,7 @@ use lib.ListN.{drop, getD, length, length-drop, take}
 use lib.Seq.{drop-drop, getD-drop}
 use borrow.Author.Tests.{eq-eqb, eqb-true, ne-eqb}
 use Rattle.laws.proofs.Lists.{behind, from}
-use Rattle.script_words.specs.Words.{before, toFirst, words}
+use Rattle.script_words.specs.Words.{before, toFirst, wordsIn}
 
 -- ---- what stands before the first c
 
@@ -57,12 +57,12 @@ module _ (c : ℕ) where
 
 -- ---- words
 
-pub words-first : (s : List ℕ) → words s ≡ before 0x20 s ∷ drop 1 (words s)
-unfolding words before
+pub words-first : (s : List ℕ) → wordsIn s ≡ before 0x20 s ∷ drop 1 (wordsIn s)
+unfolding wordsIn before
 words-first [] = refl
 words-first (x ∷ s) = go (eqb x 0x20) (words-first s)
   where
-    go : (b : Bool) → words s ≡ before 0x20 s ∷ drop 1 (words s) → cond b ([] ∷ words s) (toFirst x (words s)) ≡ cond b [] (x ∷ before 0x20 s) ∷ drop 1 (cond b ([] ∷ words s) (toFirst x (words s)))
+    go : (b : Bool) → wordsIn s ≡ before 0x20 s ∷ drop 1 (wordsIn s) → cond b ([] ∷ wordsIn s) (toFirst x (wordsIn s)) ≡ cond b [] (x ∷ before 0x20 s) ∷ drop 1 (cond b ([] ∷ wordsIn s) (toFirst x (wordsIn s)))
     go true e = refl
     go false e = rw e
 
@@ -70,36 +70,36 @@ rest-of : (x : ℕ) (ws : List (List ℕ)) → drop 1 (toFirst x ws) ≡ drop 1 
 rest-of x [] = refl
 rest-of x (w ∷ ws) = refl
 
-pub words-rest : (s : List ℕ) → drop 1 (words s) ≡ drop 1 (words (drop (length (before 0x20 s)) s))
-unfolding words before
+pub words-rest : (s : List ℕ) → drop 1 (wordsIn s) ≡ drop 1 (wordsIn (drop (length (before 0x20 s)) s))
+unfolding wordsIn before
 words-rest [] = refl
 words-rest (x ∷ s) = go (eqb x 0x20) refl (words-rest s)
   where
-    go : (b : Bool) → eqb x 0x20 ≡ b → drop 1 (words s) ≡ drop 1 (words (drop (length (before 0x20 s)) s)) → drop 1 (cond b ([] ∷ words s) (toFirst x (words s))) ≡ drop 1 (words (drop (length (cond b [] (x ∷ before 0x20 s))) (x ∷ s)))
+    go : (b : Bool) → eqb x 0x20 ≡ b → drop 1 (wordsIn s) ≡ drop 1 (wordsIn (drop (length (before 0x20 s)) s)) → drop 1 (cond b ([] ∷ wordsIn s) (toFirst x (wordsIn s))) ≡ drop 1 (wordsIn (drop (length (cond b [] (x ∷ before 0x20 s))) (x ∷ s)))
     go true e h = sym (rw e)
-    go false e h = rest-of x (words s) ∙ h
+    go false e h = rest-of x (wordsIn s) ∙ h
 
 -- how many: one more behind a space, and as many behind any other byte
-pub words-space : (s : List ℕ) (i : ℕ) → i < length s → getD s i 0 ≡ 0x20 → length (words (drop i s)) ≡ 1 + length (words (drop (i + 1) s))
-unfolding words
+pub words-space : (s : List ℕ) (i : ℕ) → i < length s → getD s i 0 ≡ 0x20 → length (wordsIn (drop i s)) ≡ 1 + length (wordsIn (drop (i + 1) s))
+unfolding wordsIn
 words-space s i h e = rw (from s i 0 h, eq-eqb (getD s i 0) 0x20 e) (omega arith)
 
-pub words-other : (s : List ℕ) (i : ℕ) → i < length s → (getD s i 0 ≡ 0x20 → ⊥) → length (words (drop i s)) ≡ length (words (drop (i + 1) s))
-unfolding words
+pub words-other : (s : List ℕ) (i : ℕ) → i < length s → (getD s i 0 ≡ 0x20 → ⊥) → length (wordsIn (drop i s)) ≡ length (wordsIn (drop (i + 1) s))
+unfolding wordsIn
 words-other s i h e =
     let w = words-first (drop (i + 1) s) in
     rw (from s i 0 h, ne-eqb (getD s i 0) 0x20 e) (ap (λ (ws : List (List ℕ)). length (toFirst (getD s i 0) ws)) w ∙ sym (ap length w))
 
-pub words-behind : (s : List ℕ) (i : ℕ) → length s ≤ i → words (drop i s) ≡ [] ∷ []
-unfolding words
+pub words-behind : (s : List ℕ) (i : ℕ) → length s ≤ i → wordsIn (drop i s) ≡ [] ∷ []
+unfolding wordsIn
 words-behind s i h = rw (behind s i h)
 
 -- the words behind a space, and behind the end of a line
-pub behind-space : (line : List ℕ) (e : ℕ) → e < length line → getD line e 0 ≡ 0x20 → drop 1 (words (drop e line)) ≡ words (drop (e + 1) line)
-unfolding words
+pub behind-space : (line : List ℕ) (e : ℕ) → e < length line → getD line e 0 ≡ 0x20 → drop 1 (wordsIn (drop e line)) ≡ wordsIn (drop (e + 1) line)
+unfolding wordsIn
 behind-space line e h q = rw (from line e 0 h, eq-eqb (getD line e 0) 0x20 q)
 
-pub behind-line : (line : List ℕ) (e : ℕ) → length line ≤ e → drop 1 (words (drop e line)) ≡ []
+pub behind-line : (line : List ℕ) (e : ℕ) → length line ≤ e → drop 1 (wordsIn (drop e line)) ≡ []
 behind-line line e h = ap (drop 1) (words-behind line e h)
 
 -- ---- a word that starts at a place of a line and ends at e
@@ -107,12 +107,12 @@ behind-line line e h = ap (drop 1) (words-behind line e h)
 abbrev pub Ends : List ℕ → ℕ → ℕ → Type 0
 Ends line at e = e ≡ at + length (before 0x20 (drop at line))
 
-word-next : (line : List ℕ) (at n m : ℕ) → n ≡ suc m → getD (words (drop at line)) n [] ≡ getD (drop 1 (words (drop at line))) m []
-word-next line at n m e = ap (λ (j : ℕ). getD (words (drop at line)) j []) e ∙ ap (λ (ws : List (List ℕ)). getD ws (suc m) []) (words-first (drop at line))
+word-next : (line : List ℕ) (at n m : ℕ) → n ≡ suc m → getD (wordsIn (drop at line)) n [] ≡ getD (drop 1 (wordsIn (drop at line))) m []
+word-next line at n m e = ap (λ (j : ℕ). getD (wordsIn (drop at line)) j []) e ∙ ap (λ (ws : List (List ℕ)). getD ws (suc m) []) (words-first (drop at line))
 
 -- no word is left to pass
-pub word-here : (line : List ℕ) (at n : ℕ) → n ≡ 0 → getD (words (drop at line)) n [] ≡ before 0x20 (drop at line)
-word-here line at n e = ap (λ (j : ℕ). getD (words (drop at line)) j []) e ∙ ap (λ (ws : List (List ℕ)). getD ws 0 []) (words-first (drop at line))
+pub word-here : (line : List ℕ) (at n : ℕ) → n ≡ 0 → getD (wordsIn (drop at line)) n [] ≡ before 0x20 (drop at line)
+word-here line at n e = ap (λ (j : ℕ). getD (wordsIn (drop at line)) j []) e ∙ ap (λ (ws : List (List ℕ)). getD ws 0 []) (words-first (drop at line))
 
 module _ (line : List ℕ) (at e : ℕ) (end : Ends line at e) where
   -- it is the part between the two
@@ -129,14 +129,14 @@ module _ (line : List ℕ) (at e : ℕ) (end : Ends line at e) where
       ∙ sym (getD-drop at line (length (before 0x20 (drop at line))) 0)
       ∙ before-stop 0x20 (drop at line) (omega arith)
 
-  pub word-rest : drop 1 (words (drop at line)) ≡ drop 1 (words (drop e line))
+  pub word-rest : drop 1 (wordsIn (drop at line)) ≡ drop 1 (wordsIn (drop e line))
   word-rest =
       words-rest (drop at line)
-      ∙ ap (λ (t : List ℕ). drop 1 (words t)) (drop-drop (length (before 0x20 (drop at line))) at line ∙ ap (λ (j : ℕ). drop j line) (sym end))
+      ∙ ap (λ (t : List ℕ). drop 1 (wordsIn t)) (drop-drop (length (before 0x20 (drop at line))) at line ∙ ap (λ (j : ℕ). drop j line) (sym end))
 
   -- it is passed: behind it the line has no more words, or one less to pass
-  pub word-last : (n m : ℕ) → n ≡ suc m → length line ≤ e → getD (words (drop at line)) n [] ≡ []
+  pub word-last : (n m : ℕ) → n ≡ suc m → length line ≤ e → getD (wordsIn (drop at line)) n [] ≡ []
   word-last n m q h = word-next line at n m q ∙ ap (λ (ws : List (List ℕ)). getD ws m []) (word-rest ∙ behind-line line e h)
 
-  pub word-passed : (n m : ℕ) → n ≡ suc m → e < length line → getD (words (drop at line)) n [] ≡ getD (words (drop (e + 1) line)) m []
+  pub word-passed : (n m : ℕ) → n ≡ suc m → e < length line → getD (wordsIn (drop at line)) n [] ≡ getD (wordsIn (drop (e + 1) line)) m []
   word-passed n m q h = word-next line at n m q ∙ ap (λ (ws : List (List ℕ)). getD ws m []) (word-rest ∙ behind-space line e h (word-stop h))

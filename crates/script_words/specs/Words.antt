@@ -23,12 +23,12 @@ toFirst x [] = (x ∷ []) ∷ []
 toFirst x (w ∷ ws) = (x ∷ w) ∷ ws
 
 -- "Words are parted by one space": a space too many makes an empty word, and no order takes one
-unfoldable pub words : List ℕ → List (List ℕ)
-words [] = [] ∷ []
-words (x ∷ s) = cond (eqb x 0x20) ([] ∷ words s) (toFirst x (words s))
+unfoldable pub wordsIn : List ℕ → List (List ℕ)
+wordsIn [] = [] ∷ []
+wordsIn (x ∷ s) = cond (eqb x 0x20) ([] ∷ wordsIn s) (toFirst x (wordsIn s))
 
 abbrev pub wordAt : ℕ → List ℕ → List ℕ
-wordAt k line = getD (words line) k []
+wordAt k line = getD (wordsIn line) k []
 
 -- "N is a decimal number without sign or leading zero"; 0 where the word is none up to `most`
 abbrev pub valueOf : Number → ℕ

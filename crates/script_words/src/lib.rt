@@ -4,16 +4,18 @@ use decimals::plain_number;
 use octets::byte_at;
 use octets::same_bytes;
 ghost use mathlib.Core.Path.{_≡_};
+ghost use mathlib.Core.List.{map};
 ghost use Prim.Native.Nat.{suc, _+_, _*_, _≤_};
 ghost use lib.ListN.{length, getD, drop};
 ghost use Rattle.laws.specs.Bytes.{Sent};
 ghost use Rattle.decimals.specs.Decimals.{upTo};
-ghost use Rattle.script_words.specs.Words.{before, words, wordAt, valueOf, numberAt, bytesIn, bytesAt};
+ghost use Rattle.script_words.specs.Words.{before, wordsIn, wordAt, valueOf, numberAt, bytesIn, bytesAt};
 ghost use Rattle.script_words.specs.Kinds.{isNumber, isFamily, isKind, shaped};
+ghost use Rattle.script_words.specs.KindNumbers.{kindOf};
 use script_hex::hex_value;
 use script_hex::is_hex;
 
-// The kinds of words: HEX, a family's letter, and the most that a number may be.
+// The kinds of words as numbers: HEX, a family's letter, and any other number for the most that an N may be.
 pub const HEX: u32 = 0;
 
 pub const FAMILY: u32 = 1;
@@ -136,7 +138,7 @@ fn is_number(w: &[u8], most: u32) -> bool
 
 // Whether a word is of a kind.
 fn is_kind(kind: u32, w: &[u8]) -> bool
-    ensures { λ r. ⌜ r ≡ isKind kind (now (w .entry)) ⌝ }
+    ensures { λ r. ⌜ r ≡ isKind (kindOf kind) (now (w .entry)) ⌝ }
 {
     if kind == HEX {
         return is_hex(w);
@@ -149,7 +151,7 @@ fn is_kind(kind: u32, w: &[u8]) -> bool
 
 // Whether the words behind the first are one of each kind, and no more. A word ends at `end`, before a space or with the line.
 pub fn are_shaped(line: &[u8], kinds: &[u32]) -> bool
-    ensures { λ r. ⌜ r ≡ shaped (now (kinds .entry)) (drop 1 (words (now (line .entry)))) ⌝ }
+    ensures { λ r. ⌜ r ≡ shaped (map kindOf (now (kinds .entry))) (drop 1 (wordsIn (now (line .entry)))) ⌝ }
 {
     let mut end = length_before(b' ', line);
     let mut i = 0;
@@ -169,7 +171,7 @@ pub fn are_shaped(line: &[u8], kinds: &[u32]) -> bool
 
 // How many spaces part the words.
 pub fn spaces_in(line: &[u8]) -> usize
-    ensures { λ r. ⌜ suc r ≡ length (words (now (line .entry))) ⌝ }
+    ensures { λ r. ⌜ suc r ≡ length (wordsIn (now (line .entry))) ⌝ }
 {
     let mut i = 0;
     let mut n = 0;

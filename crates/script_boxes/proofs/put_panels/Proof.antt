@@ -6,7 +6,6 @@ use lib.ListN.{length, length-set}
 use lib.Seq.{paste, paste-zero}
 use borrow.Author.Needs.{needs}
 use Rattle.laws.specs.Bytes.{laid}
-use Rattle.script_words.specs.Kinds.{area, family}
 use Rattle.script_boxes.specs.Boxes.{configuration}
 use Rattle.script_words.proofs.Areas.{front-three, front-whole}
 use Rattle.script_boxes.proofs.Configurations.{configuration-length, family-of, group-of, unit-of}

@@ -7,7 +7,7 @@ use lib.Seq.{length-take-le}
 use borrow.Author.Needs.{needs}
 use borrow.Author.Tests.{le-leb, lt-leb}
 use Rattle.script_lines.specs.Orders.{asksBox}
-use Rattle.script_lines.proofs.Configurations.{kinds-of}
+use Rattle.script_lines.proofs.Configurations.{numbers-of}
 use Rattle.script_lines.proofs.is_box.Statement.{statement}
 use Rattle.script_lines.proofs.is_box.Tie as tie
 
@@ -42,7 +42,7 @@ returns-2 : tie.Need-returns-2
 unfolding asksBox
 returns-2 c =
     let n = c .before .before .before .before .before .panels-in .result in
-    let e = ap (take (n * 3)) (c .before .before .before .panel-kinds .ensures) ∙ kinds-of n (c .before .before .before .before .if1 .left) in
+    let e = numbers-of n (c .before .before .before .panel-kinds .result) (c .before .before .before .before .if1 .left) (c .before .before .before .panel-kinds .ensures) in
     sym (rw (← c .before .before .before .before .before .panels-in .ensures, le-leb _ _ (c .before .before .before .before .if1 .left), ← e, ← c .is-asked .ensures))
 
 pub is-box-spec : {M : Type 1} → statement M

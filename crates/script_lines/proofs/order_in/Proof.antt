@@ -3,13 +3,13 @@ use Prim.Native.Nat.{_-_, _≤_}
 use mathlib.Core.Path.{_∙_, _≡_, refl, sym}
 use lib.ListN.{drop}
 use borrow.Author.Needs.{needs}
-use Rattle.script_lines.specs.Orders.{orderIn, rows}
+use Rattle.script_lines.specs.Orders.{orderIn, orderRows}
 use Rattle.script_lines.proofs.Orders.{asked, kinds-held, many, none-asked, not-asked, order-held, row-asks, word-held}
 use Rattle.script_lines.proofs.order_in.Statement.{statement}
 use Rattle.script_lines.proofs.order_in.Tie as tie
 
 abbrev Inv-loop : tie.InvT-loop
-Inv-loop line words word-ends kinds kind-ends orders i₀ i = (i ≤ many) × (orderIn rows line ≡ orderIn (drop i rows) line)
+Inv-loop line words word-ends kinds kind-ends orders i₀ i = (i ≤ many) × (orderIn orderRows line ≡ orderIn (drop i orderRows) line)
 
 abbrev μ-loop : tie.MeasureT-loop
 μ-loop line words word-ends kinds kind-ends orders i₀ i = many - i

@@ -1,5 +1,6 @@
 -- `are_shaped` asks a word a turn: what is asked of all words behind the first is asked of those behind `end`.
 use Prim.Native.Nat.{_+_, _-_, _<_, _≤_}
+use mathlib.Core.List.{map}
 use mathlib.Core.Path.{_∙_, _≡_, ap, sym}
 use native.Mathlib.Nat.{zero-add}
 use native.Mathlib.Omega.{arith}
@@ -7,14 +8,15 @@ use lib.ListN.{drop, getD, length}
 use borrow.Author.Needs.{needs}
 use borrow.Author.Tests.{not-false, not-true}
 use Rattle.script_words.specs.Kinds.{shaped}
-use Rattle.script_words.specs.Words.{words}
+use Rattle.script_words.specs.KindNumbers.{kindOf}
+use Rattle.script_words.specs.Words.{wordsIn}
 use Rattle.script_words.proofs.Shapes.{shaped-end, shaped-short, shaped-word}
 use Rattle.script_words.proofs.Words.{Ends, word-rest, word-stop}
 use Rattle.script_words.proofs.are_shaped.Statement.{statement}
 use Rattle.script_words.proofs.are_shaped.Tie as tie
 
 abbrev Inv-loop : tie.InvT-loop
-Inv-loop line kinds end₀ i₀ end i = (end ≤ length line) × ((i ≤ length kinds) × ((end < length line → getD line end 0 ≡ 0x20) × (shaped kinds (drop 1 (words line)) ≡ shaped (drop i kinds) (drop 1 (words (drop end line))))))
+Inv-loop line kinds end₀ i₀ end i = (end ≤ length line) × ((i ≤ length kinds) × ((end < length line → getD line end 0 ≡ 0x20) × (shaped (map kindOf kinds) (drop 1 (wordsIn line)) ≡ shaped (map kindOf (drop i kinds)) (drop 1 (wordsIn (drop end line))))))
 
 abbrev μ-loop : tie.MeasureT-loop
 μ-loop line kinds end₀ i₀ end i = length kinds - i
@@ -26,7 +28,7 @@ loop-holds : tie.Need-loop-holds Inv-loop μ-loop
 loop-holds c =
     let a = c .before .before .before .args in
     let e : Ends (a .line .now) 0 (c .length-before .result) = c .length-before .ensures .0 ∙ sym (zero-add _) in
-    (search needs, (search needs, (word-stop (a .line .now) 0 _ e, ap (shaped (a .kinds .now)) (word-rest (a .line .now) 0 _ e))))
+    (search needs, (search needs, (word-stop (a .line .now) 0 _ e, ap (shaped (map kindOf (a .kinds .now))) (word-rest (a .line .now) 0 _ e))))
 
 returns : tie.Need-returns Inv-loop μ-loop
 returns c =

@@ -5,7 +5,6 @@ use native.Mathlib.Omega.{arith}
 use lib.ListN.{length, length-set}
 use lib.Seq.{paste, paste-zero}
 use borrow.Author.Needs.{needs}
-use Rattle.script_words.specs.Kinds.{area}
 use Rattle.script_words.specs.Words.{bytesIn}
 use Rattle.script_words.proofs.Areas.{front-more, front-whole}
 use Rattle.script_words.proofs.Hex.{pair-at, pairs-length}

@@ -6,13 +6,13 @@ use native.Mathlib.Nat.{zero-add}
 use native.Mathlib.Omega.{arith}
 use lib.ListN.{drop, length}
 use borrow.Author.Needs.{needs}
-use Rattle.script_words.specs.Words.{words}
+use Rattle.script_words.specs.Words.{wordsIn}
 use Rattle.script_words.proofs.Words.{words-behind, words-other, words-space}
 use Rattle.script_words.proofs.spaces_in.Statement.{statement}
 use Rattle.script_words.proofs.spaces_in.Tie as tie
 
 abbrev Inv-loop : tie.InvT-loop
-Inv-loop line i₀ n₀ i n = (i ≤ length line) × ((n ≤ i) × (n + length (words (drop i line)) ≡ length (words line)))
+Inv-loop line i₀ n₀ i n = (i ≤ length line) × ((n ≤ i) × (n + length (wordsIn (drop i line)) ≡ length (wordsIn line)))
 
 abbrev μ-loop : tie.MeasureT-loop
 μ-loop line i₀ n₀ i n = length line - i

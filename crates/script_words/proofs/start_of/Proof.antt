@@ -5,13 +5,13 @@ use mathlib.Core.Path.{_∙_, _≡_, ap, sym}
 use native.Mathlib.Omega.{arith}
 use lib.ListN.{drop, getD, length}
 use borrow.Author.Needs.{needs}
-use Rattle.script_words.specs.Words.{wordAt, words}
+use Rattle.script_words.specs.Words.{wordAt, wordsIn}
 use Rattle.script_words.proofs.Words.{before-behind, word-here, word-last, word-passed}
 use Rattle.script_words.proofs.start_of.Statement.{statement}
 use Rattle.script_words.proofs.start_of.Tie as tie
 
 abbrev Inv-loop : tie.InvT-loop
-Inv-loop line k at₀ i₀ at i = (at ≤ length line) × ((i ≤ k) × (wordAt k line ≡ getD (words (drop at line)) (k - i) []))
+Inv-loop line k at₀ i₀ at i = (at ≤ length line) × ((i ≤ k) × (wordAt k line ≡ getD (wordsIn (drop at line)) (k - i) []))
 
 abbrev μ-loop : tie.MeasureT-loop
 μ-loop line k at₀ i₀ at i = k - i
