@@ -1,11 +1,12 @@
--- The bench rows and one frame of each kind, by computation.
+-- The bench rows and one frame of each kind in one table, by computation.
 use Prim.Native.Nat.{ℕ}
 use Prim.Native.String.{String}
 use mathlib.Core.Path.{_≡_, refl}
-use mathlib.Core.List.{List, [], _∷_, _++_}
+use mathlib.Core.List.{List, [], _∷_, _++_, map}
 use Rattle.laws.specs.Bytes.{ascii}
+use Rattle.terms.specs.declared.Answer.{Answer}
 use Rattle.terms.specs.declared.Answer.the-variants.{Done, AreaTooSmall, WrongLength, NotForUs, NotUnderstood}
-use Rattle.turns.specs.Turns.{taken}
+use Rattle.turns.specs.Turns.{Turn, taken}
 use Rattle.panels.specs.Records.{startK}
 use Rattle.panels.specs.declared.KRecord.{KRecord}
 use Rattle.decimals.specs.Decimals.{isDigit, decimal, inDigits}
@@ -19,133 +20,124 @@ use Rattle.kjw_asks.specs.Asks.{heardOf, isOurs, controlOf, enquiryOf, stateNam
 use Rattle.kjw_sets.specs.Sets.{setBy, setOf, chosenFrom, volumeOrder, isVolume, inputOrder, isPadded, inputOf}
 use Rattle.panels.specs.Valid.{okInput}
 
+-- a row: the panel before a frame, the area's length, the frame, and its turn: the panel afterwards, the answer and the reply
+record Row : Type 0 where
+  before : KRecord
+  room : ℕ
+  frame : List ℕ
+  turn : Turn KRecord
+
 -- a text and 0Ah
-line : String → List ℕ
+abbrev line : String → List ℕ
 line s = ascii s ++ (0x0a ∷ [])
 
+abbrev row : KRecord → ℕ → List ℕ → KRecord → Answer → List ℕ → Row
+row k room m after answer reply = record { before = k; room = room; frame = m; turn = record { after = after; answer = answer; reply = reply } }
+
+-- a control that is carried out: answer and notice, or the answer alone
+abbrev told : KRecord → String → KRecord → String → String → Row
+told k m after answer notice = row k 512 (line m) after Done (line answer ++ line notice)
+
+abbrev done : KRecord → String → KRecord → String → Row
+done k m after answer = row k 512 (line m) after Done (line answer)
+
 -- a panel with no setting at its start value but audio mute
-panel : KRecord
+abbrev panel : KRecord
 panel = record { power = 1; amut = 0; pmut = 1; volume = 42; scene = 0; kind = 3; port = 12 }
 
--- the bench: "`*SCPOWR0000000000000001` and 0Ah from standby: answer and notice; again: answer alone. Port 0000: 6."
-bench-on : turnOf (line "*SCPOWR0000000000000001") startK ≡ record { after = withPower 1 startK; answer = Done; reply = line "*SAPOWR0000000000000000" ++ line "*SNPOWR0000000000000001" }
-unfolding turnOf decided heardOf isOurs lettersOf controlOf enquiryOf stateNamed namedIn setBy setOf toggleOf stateLetters chosenFrom volumeOrder isVolume inputOrder isPadded inputOf okInput isDigit decimal carried flipped replyOf noticed valueOf switchWord sceneWord inputWord inDigits bytesOf frameOf line panel
-bench-on = refl
+-- 6, answered with sixteen F
+abbrev strange : KRecord → String → String → Row
+strange k m answer = row k 512 (line m) k NotUnderstood (line answer)
 
-bench-again : turnOf (line "*SCPOWR0000000000000001") (withPower 1 startK) ≡ record { after = withPower 1 startK; answer = Done; reply = line "*SAPOWR0000000000000000" }
-unfolding turnOf decided heardOf isOurs lettersOf controlOf enquiryOf stateNamed namedIn setBy setOf toggleOf stateLetters chosenFrom volumeOrder isVolume inputOrder isPadded inputOf okInput isDigit decimal carried flipped replyOf noticed valueOf switchWord sceneWord inputWord inDigits bytesOf frameOf line panel
-bench-again = refl
+-- no reply
+abbrev refused : List ℕ → Answer → Row
+refused m answer = row panel 512 m panel answer []
 
-bench-port : turnOf (line "*SCINPT0000000100000000") startK ≡ record { after = startK; answer = NotUnderstood; reply = line "*SAINPTFFFFFFFFFFFFFFFF" }
-unfolding turnOf decided heardOf isOurs lettersOf controlOf enquiryOf stateNamed namedIn setBy setOf toggleOf stateLetters chosenFrom volumeOrder isVolume inputOrder isPadded inputOf okInput isDigit decimal carried flipped replyOf noticed valueOf switchWord sceneWord inputWord inDigits bytesOf frameOf line panel
-bench-port = refl
+-- ---- the bench: "`*SCPOWR0000000000000001` and 0Ah from standby: answer and notice; again: answer alone. Port 0000: 6."
 
--- each control
-set-amut : turnOf (line "*SCAMUT0000000000000001") startK ≡ record { after = withAmut 1 startK; answer = Done; reply = line "*SAAMUT0000000000000000" ++ line "*SNAMUT0000000000000001" }
-unfolding turnOf decided heardOf isOurs lettersOf controlOf enquiryOf stateNamed namedIn setBy setOf toggleOf stateLetters chosenFrom volumeOrder isVolume inputOrder isPadded inputOf okInput isDigit decimal carried flipped replyOf noticed valueOf switchWord sceneWord inputWord inDigits bytesOf frameOf line panel
-set-amut = refl
+abbrev bench-on : Row
+bench-on = told startK "*SCPOWR0000000000000001" (withPower 1 startK) "*SAPOWR0000000000000000" "*SNPOWR0000000000000001"
 
-set-pmut : turnOf (line "*SCPMUT0000000000000001") startK ≡ record { after = withPmut 1 startK; answer = Done; reply = line "*SAPMUT0000000000000000" ++ line "*SNPMUT0000000000000001" }
-unfolding turnOf decided heardOf isOurs lettersOf controlOf enquiryOf stateNamed namedIn setBy setOf toggleOf stateLetters chosenFrom volumeOrder isVolume inputOrder isPadded inputOf okInput isDigit decimal carried flipped replyOf noticed valueOf switchWord sceneWord inputWord inDigits bytesOf frameOf line panel
-set-pmut = refl
+abbrev bench-again : Row
+bench-again = done (withPower 1 startK) "*SCPOWR0000000000000001" (withPower 1 startK) "*SAPOWR0000000000000000"
 
-toggle-power : turnOf (line "*SCTPOW################") startK ≡ record { after = withPower 1 startK; answer = Done; reply = line "*SATPOW0000000000000000" ++ line "*SNPOWR0000000000000001" }
-unfolding turnOf decided heardOf isOurs lettersOf controlOf enquiryOf stateNamed namedIn setBy setOf toggleOf stateLetters chosenFrom volumeOrder isVolume inputOrder isPadded inputOf okInput isDigit decimal carried flipped replyOf noticed valueOf switchWord sceneWord inputWord inDigits bytesOf frameOf line panel
-toggle-power = refl
+abbrev bench-port : Row
+bench-port = strange startK "*SCINPT0000000100000000" "*SAINPTFFFFFFFFFFFFFFFF"
 
-toggle-picture : turnOf (line "*SCTPMU################") (withPmut 1 startK) ≡ record { after = startK; answer = Done; reply = line "*SATPMU0000000000000000" ++ line "*SNPMUT0000000000000000" }
-unfolding turnOf decided heardOf isOurs lettersOf controlOf enquiryOf stateNamed namedIn setBy setOf toggleOf stateLetters chosenFrom volumeOrder isVolume inputOrder isPadded inputOf okInput isDigit decimal carried flipped replyOf noticed valueOf switchWord sceneWord inputWord inDigits bytesOf frameOf line panel
-toggle-picture = refl
+-- ---- "In PMUT notices 1 means enabled"; a scene has no notice
 
-set-volume : turnOf (line "*SCVOLU0000000000000100") startK ≡ record { after = withVolume 100 startK; answer = Done; reply = line "*SAVOLU0000000000000000" ++ line "*SNVOLU0000000000000100" }
-unfolding turnOf decided heardOf isOurs lettersOf controlOf enquiryOf stateNamed namedIn setBy setOf toggleOf stateLetters chosenFrom volumeOrder isVolume inputOrder isPadded inputOf okInput isDigit decimal carried flipped replyOf noticed valueOf switchWord sceneWord inputWord inDigits bytesOf frameOf line panel
-set-volume = refl
+abbrev set-pmut : Row
+set-pmut = told startK "*SCPMUT0000000000000001" (withPmut 1 startK) "*SAPMUT0000000000000000" "*SNPMUT0000000000000001"
 
-set-input : turnOf (line "*SCINPT0000000500009876") startK ≡ record { after = withInput 5 9876 startK; answer = Done; reply = line "*SAINPT0000000000000000" ++ line "*SNINPT0000000500009876" }
-unfolding turnOf decided heardOf isOurs lettersOf controlOf enquiryOf stateNamed namedIn setBy setOf toggleOf stateLetters chosenFrom volumeOrder isVolume inputOrder isPadded inputOf okInput isDigit decimal carried flipped replyOf noticed valueOf switchWord sceneWord inputWord inDigits bytesOf frameOf line panel
-set-input = refl
+abbrev set-scene : Row
+set-scene = done startK "*SCSCENauto24pSync#####" (withScene 1 startK) "*SASCEN0000000000000000"
 
--- a scene has no notice
-set-scene : turnOf (line "*SCSCENauto24pSync#####") startK ≡ record { after = withScene 1 startK; answer = Done; reply = line "*SASCEN0000000000000000" }
-unfolding turnOf decided heardOf isOurs lettersOf controlOf enquiryOf stateNamed namedIn setBy setOf toggleOf stateLetters chosenFrom volumeOrder isVolume inputOrder isPadded inputOf okInput isDigit decimal carried flipped replyOf noticed valueOf switchWord sceneWord inputWord inDigits bytesOf frameOf line panel
-set-scene = refl
+-- ---- what is not understood: 101, a wrong digit, a type 2, a scene's name without its padding, letters of no state, an enquiry with
+-- parameters
 
--- each enquiry
-ask-power : turnOf (line "*SEPOWR################") panel ≡ record { after = panel; answer = Done; reply = line "*SAPOWR0000000000000001" }
-unfolding turnOf decided heardOf isOurs lettersOf controlOf enquiryOf stateNamed namedIn setBy setOf toggleOf stateLetters chosenFrom volumeOrder isVolume inputOrder isPadded inputOf okInput isDigit decimal carried flipped replyOf noticed valueOf switchWord sceneWord inputWord inDigits bytesOf frameOf line panel
-ask-power = refl
+abbrev volume-101 : Row
+volume-101 = strange panel "*SCVOLU0000000000000101" "*SAVOLUFFFFFFFFFFFFFFFF"
 
-ask-amut : turnOf (line "*SEAMUT################") panel ≡ record { after = panel; answer = Done; reply = line "*SAAMUT0000000000000000" }
-unfolding turnOf decided heardOf isOurs lettersOf controlOf enquiryOf stateNamed namedIn setBy setOf toggleOf stateLetters chosenFrom volumeOrder isVolume inputOrder isPadded inputOf okInput isDigit decimal carried flipped replyOf noticed valueOf switchWord sceneWord inputWord inDigits bytesOf frameOf line panel
-ask-amut = refl
+abbrev volume-digit : Row
+volume-digit = strange panel "*SCVOLU00000000000000:0" "*SAVOLUFFFFFFFFFFFFFFFF"
 
-ask-pmut : turnOf (line "*SEPMUT################") panel ≡ record { after = panel; answer = Done; reply = line "*SAPMUT0000000000000001" }
-unfolding turnOf decided heardOf isOurs lettersOf controlOf enquiryOf stateNamed namedIn setBy setOf toggleOf stateLetters chosenFrom volumeOrder isVolume inputOrder isPadded inputOf okInput isDigit decimal carried flipped replyOf noticed valueOf switchWord sceneWord inputWord inDigits bytesOf frameOf line panel
-ask-pmut = refl
+abbrev input-type : Row
+input-type = strange panel "*SCINPT0000000200000001" "*SAINPTFFFFFFFFFFFFFFFF"
 
-ask-volume : turnOf (line "*SEVOLU################") panel ≡ record { after = panel; answer = Done; reply = line "*SAVOLU0000000000000042" }
-unfolding turnOf decided heardOf isOurs lettersOf controlOf enquiryOf stateNamed namedIn setBy setOf toggleOf stateLetters chosenFrom volumeOrder isVolume inputOrder isPadded inputOf okInput isDigit decimal carried flipped replyOf noticed valueOf switchWord sceneWord inputWord inDigits bytesOf frameOf line panel
-ask-volume = refl
+abbrev scene-bare : Row
+scene-bare = strange panel "*SCSCENauto            " "*SASCENFFFFFFFFFFFFFFFF"
 
-ask-input : turnOf (line "*SEINPT################") panel ≡ record { after = panel; answer = Done; reply = line "*SAINPT0000000300000012" }
-unfolding turnOf decided heardOf isOurs lettersOf controlOf enquiryOf stateNamed namedIn setBy setOf toggleOf stateLetters chosenFrom volumeOrder isVolume inputOrder isPadded inputOf okInput isDigit decimal carried flipped replyOf noticed valueOf switchWord sceneWord inputWord inDigits bytesOf frameOf line panel
-ask-input = refl
+abbrev no-state : Row
+no-state = strange panel "*SCpowr0000000000000001" "*SApowrFFFFFFFFFFFFFFFF"
 
-ask-scene : turnOf (line "*SESCEN################") panel ≡ record { after = panel; answer = Done; reply = line "*SASCENauto############" }
-unfolding turnOf decided heardOf isOurs lettersOf controlOf enquiryOf stateNamed namedIn setBy setOf toggleOf stateLetters chosenFrom volumeOrder isVolume inputOrder isPadded inputOf okInput isDigit decimal carried flipped replyOf noticed valueOf switchWord sceneWord inputWord inDigits bytesOf frameOf line panel
-ask-scene = refl
+abbrev ask-given : Row
+ask-given = strange panel "*SEPOWR0000000000000001" "*SAPOWRFFFFFFFFFFFFFFFF"
 
--- what is not understood: 101, a wrong digit, a type 2, a scene's name without its padding, letters of no state, an enquiry with parameters
-volume-101 : turnOf (line "*SCVOLU0000000000000101") panel ≡ record { after = panel; answer = NotUnderstood; reply = line "*SAVOLUFFFFFFFFFFFFFFFF" }
-unfolding turnOf decided heardOf isOurs lettersOf controlOf enquiryOf stateNamed namedIn setBy setOf toggleOf stateLetters chosenFrom volumeOrder isVolume inputOrder isPadded inputOf okInput isDigit decimal carried flipped replyOf noticed valueOf switchWord sceneWord inputWord inDigits bytesOf frameOf line panel
-volume-101 = refl
+-- ---- what is refused: another length, a wrong `*S`, a wrong footer, the types A and N, an area of 511 bytes
 
-volume-digit : turnOf (line "*SCVOLU00000000000000:0") panel ≡ record { after = panel; answer = NotUnderstood; reply = line "*SAVOLUFFFFFFFFFFFFFFFF" }
-unfolding turnOf decided heardOf isOurs lettersOf controlOf enquiryOf stateNamed namedIn setBy setOf toggleOf stateLetters chosenFrom volumeOrder isVolume inputOrder isPadded inputOf okInput isDigit decimal carried flipped replyOf noticed valueOf switchWord sceneWord inputWord inDigits bytesOf frameOf line panel
-volume-digit = refl
+abbrev long : Row
+long = refused (line "*SCPOWR00000000000000001") WrongLength
 
-input-type : turnOf (line "*SCINPT0000000200000001") panel ≡ record { after = panel; answer = NotUnderstood; reply = line "*SAINPTFFFFFFFFFFFFFFFF" }
-unfolding turnOf decided heardOf isOurs lettersOf controlOf enquiryOf stateNamed namedIn setBy setOf toggleOf stateLetters chosenFrom volumeOrder isVolume inputOrder isPadded inputOf okInput isDigit decimal carried flipped replyOf noticed valueOf switchWord sceneWord inputWord inDigits bytesOf frameOf line panel
-input-type = refl
+abbrev empty : Row
+empty = refused [] WrongLength
 
-scene-bare : turnOf (line "*SCSCENauto            ") panel ≡ record { after = panel; answer = NotUnderstood; reply = line "*SASCENFFFFFFFFFFFFFFFF" }
-unfolding turnOf decided heardOf isOurs lettersOf controlOf enquiryOf stateNamed namedIn setBy setOf toggleOf stateLetters chosenFrom volumeOrder isVolume inputOrder isPadded inputOf okInput isDigit decimal carried flipped replyOf noticed valueOf switchWord sceneWord inputWord inDigits bytesOf frameOf line panel
-scene-bare = refl
+abbrev wrong-start : Row
+wrong-start = refused (line "*TCPOWR0000000000000001") NotForUs
 
-no-state : turnOf (line "*SCpowr0000000000000001") panel ≡ record { after = panel; answer = NotUnderstood; reply = line "*SApowrFFFFFFFFFFFFFFFF" }
-unfolding turnOf decided heardOf isOurs lettersOf controlOf enquiryOf stateNamed namedIn setBy setOf toggleOf stateLetters chosenFrom volumeOrder isVolume inputOrder isPadded inputOf okInput isDigit decimal carried flipped replyOf noticed valueOf switchWord sceneWord inputWord inDigits bytesOf frameOf line panel
-no-state = refl
+abbrev wrong-footer : Row
+wrong-footer = refused (ascii "*SCPOWR0000000000000001!") NotForUs
 
-ask-given : turnOf (line "*SEPOWR0000000000000001") panel ≡ record { after = panel; answer = NotUnderstood; reply = line "*SAPOWRFFFFFFFFFFFFFFFF" }
-unfolding turnOf decided heardOf isOurs lettersOf controlOf enquiryOf stateNamed namedIn setBy setOf toggleOf stateLetters chosenFrom volumeOrder isVolume inputOrder isPadded inputOf okInput isDigit decimal carried flipped replyOf noticed valueOf switchWord sceneWord inputWord inDigits bytesOf frameOf line panel
-ask-given = refl
+abbrev type-answer : Row
+type-answer = refused (line "*SAPOWR0000000000000001") NotForUs
 
--- what is refused: another length, a wrong `*S`, a wrong footer, the types A and N
-long : turnOf (line "*SCPOWR00000000000000001") panel ≡ record { after = panel; answer = WrongLength; reply = [] }
-unfolding turnOf decided heardOf isOurs lettersOf controlOf enquiryOf stateNamed namedIn setBy setOf toggleOf stateLetters chosenFrom volumeOrder isVolume inputOrder isPadded inputOf okInput isDigit decimal carried flipped replyOf noticed valueOf switchWord sceneWord inputWord inDigits bytesOf frameOf line panel
-long = refl
+abbrev type-notice : Row
+type-notice = refused (line "*SNPOWR0000000000000001") NotForUs
 
-empty : turnOf [] panel ≡ record { after = panel; answer = WrongLength; reply = [] }
-unfolding turnOf decided heardOf isOurs lettersOf controlOf enquiryOf stateNamed namedIn setBy setOf toggleOf stateLetters chosenFrom volumeOrder isVolume inputOrder isPadded inputOf okInput isDigit decimal carried flipped replyOf noticed valueOf switchWord sceneWord inputWord inDigits bytesOf frameOf line panel
-empty = refl
+abbrev no-room : Row
+no-room = row panel 511 (line "*SCPOWR0000000000000001") panel AreaTooSmall []
 
-wrong-start : turnOf (line "*TCPOWR0000000000000001") panel ≡ record { after = panel; answer = NotForUs; reply = [] }
-unfolding turnOf decided heardOf isOurs lettersOf controlOf enquiryOf stateNamed namedIn setBy setOf toggleOf stateLetters chosenFrom volumeOrder isVolume inputOrder isPadded inputOf okInput isDigit decimal carried flipped replyOf noticed valueOf switchWord sceneWord inputWord inDigits bytesOf frameOf line panel
-wrong-start = refl
+-- ---- the table: each control, each enquiry, and the rows above
 
-wrong-footer : turnOf (ascii "*SCPOWR0000000000000001!") panel ≡ record { after = panel; answer = NotForUs; reply = [] }
-unfolding turnOf decided heardOf isOurs lettersOf controlOf enquiryOf stateNamed namedIn setBy setOf toggleOf stateLetters chosenFrom volumeOrder isVolume inputOrder isPadded inputOf okInput isDigit decimal carried flipped replyOf noticed valueOf switchWord sceneWord inputWord inDigits bytesOf frameOf line panel
-wrong-footer = refl
+examples : List Row
+examples =
+    bench-on ∷ bench-again ∷ bench-port ∷
+    told startK "*SCAMUT0000000000000001" (withAmut 1 startK) "*SAAMUT0000000000000000" "*SNAMUT0000000000000001" ∷
+    set-pmut ∷
+    told startK "*SCTPOW################" (withPower 1 startK) "*SATPOW0000000000000000" "*SNPOWR0000000000000001" ∷
+    told (withPmut 1 startK) "*SCTPMU################" startK "*SATPMU0000000000000000" "*SNPMUT0000000000000000" ∷
+    told startK "*SCVOLU0000000000000100" (withVolume 100 startK) "*SAVOLU0000000000000000" "*SNVOLU0000000000000100" ∷
+    told startK "*SCINPT0000000500009876" (withInput 5 9876 startK) "*SAINPT0000000000000000" "*SNINPT0000000500009876" ∷
+    set-scene ∷
+    done panel "*SEPOWR################" panel "*SAPOWR0000000000000001" ∷
+    done panel "*SEAMUT################" panel "*SAAMUT0000000000000000" ∷
+    done panel "*SEPMUT################" panel "*SAPMUT0000000000000001" ∷
+    done panel "*SEVOLU################" panel "*SAVOLU0000000000000042" ∷
+    done panel "*SEINPT################" panel "*SAINPT0000000300000012" ∷
+    done panel "*SESCEN################" panel "*SASCENauto############" ∷
+    volume-101 ∷ volume-digit ∷ input-type ∷ scene-bare ∷ no-state ∷ ask-given ∷
+    long ∷ empty ∷ wrong-start ∷ wrong-footer ∷ type-answer ∷ type-notice ∷ no-room ∷ []
 
-type-answer : turnOf (line "*SAPOWR0000000000000001") panel ≡ record { after = panel; answer = NotForUs; reply = [] }
-unfolding turnOf decided heardOf isOurs lettersOf controlOf enquiryOf stateNamed namedIn setBy setOf toggleOf stateLetters chosenFrom volumeOrder isVolume inputOrder isPadded inputOf okInput isDigit decimal carried flipped replyOf noticed valueOf switchWord sceneWord inputWord inDigits bytesOf frameOf line panel
-type-answer = refl
-
-type-notice : turnOf (line "*SNPOWR0000000000000001") panel ≡ record { after = panel; answer = NotForUs; reply = [] }
-unfolding turnOf decided heardOf isOurs lettersOf controlOf enquiryOf stateNamed namedIn setBy setOf toggleOf stateLetters chosenFrom volumeOrder isVolume inputOrder isPadded inputOf okInput isDigit decimal carried flipped replyOf noticed valueOf switchWord sceneWord inputWord inDigits bytesOf frameOf line panel
-type-notice = refl
-
--- the first check of all: an area of 511 bytes
-no-room : taken 511 (turnOf (line "*SCPOWR0000000000000001")) panel ≡ record { after = panel; answer = AreaTooSmall; reply = [] }
-unfolding taken
-no-room = refl
+-- every row's turn is what the frame comes to
+tried : map (λ (r : Row). taken (r .room) (turnOf (r .frame)) (r .before)) examples ≡ map (λ (r : Row). r .turn) examples
+unfolding examples taken turnOf decided heardOf isOurs lettersOf controlOf enquiryOf stateNamed namedIn setBy setOf toggleOf stateLetters chosenFrom volumeOrder isVolume inputOrder isPadded inputOf okInput isDigit decimal carried flipped replyOf noticed valueOf switchWord sceneWord inputWord inDigits bytesOf frameOf
+tried = refl

@@ -1,7 +1,7 @@
--- What was tried at the bench, on a panel at its start values: packets, answers, records and replies, by computation.
+-- What was tried at the bench, on a panel at its start values, in one table: packets, answers, records and replies, by computation.
 use Prim.Native.Nat.{ℕ}
 use mathlib.Core.Path.{_≡_, refl}
-use mathlib.Core.List.{List, [], _∷_, _++_}
+use mathlib.Core.List.{List, [], _∷_, _++_, map}
 use lib.ListN.{set, replicate}
 use lib.IntN.{pos, negsuc}
 use Rattle.laws.specs.Bytes.{ascii}
@@ -19,90 +19,118 @@ use Rattle.vmc_tells.specs.Texts.{textOf, setWords, moveWords, valueWords, shif
 use Rattle.sdcp_asks.specs.Asks.{isOurs, isBroken, heardOf}
 use Rattle.sdcp.specs.Replies.{packetOf, bytesOf, turned, turnOf}
 
--- "03 0B 53 4F 4E 59 00 00 00 B0 00", the data's length, and the data
-packet : List ℕ → ℕ → List ℕ → List ℕ
-packet front size body = front ++ (0x00 ∷ 0xb0 ∷ 0x00 ∷ []) ++ inBytes 2 size ++ body
+-- a row: the panel before a packet, the area's length, the packet, and its turn: the panel afterwards, the answer and the reply
+record Row : Type 0 where
+  before : WRecord
+  room : ℕ
+  packet : List ℕ
+  turn : Turn WRecord
 
-own : List ℕ
+-- "03 0B 53 4F 4E 59 00 00 00 B0 00", the data's length, and the data
+abbrev packetFrom : List ℕ → ℕ → List ℕ → List ℕ
+packetFrom front size body = front ++ (0x00 ∷ 0xb0 ∷ 0x00 ∷ []) ++ inBytes 2 size ++ body
+
+abbrev own : List ℕ
 own = 0x03 ∷ 0x0b ∷ 0x53 ∷ 0x4f ∷ 0x4e ∷ 0x59 ∷ 0x00 ∷ 0x00 ∷ []
 
-seen : ℕ → List ℕ → WRecord → Turn WRecord
-seen room m w = taken room (turnOf m) w
-
-ok : List ℕ → List ℕ
+abbrev ok : List ℕ → List ℕ
 ok size = own ++ (0x01 ∷ 0xb0 ∷ 0x00 ∷ []) ++ size
 
-silent : Answer → Turn WRecord
-silent = left startW
+-- NG: the item as it came, length 2, F0h 50h
+abbrev ng : ℕ → List ℕ
+ng item = own ++ (0x00 ∷ 0xb0 ∷ item ∷ 0x00 ∷ 0x02 ∷ 0xf0 ∷ 0x50 ∷ [])
 
--- * `STATset VOLUME 40`: `03 0B 53 4F 4E 59 00 00 01 B0 00 00 00`, and the set stands in the record
-loud : WRecord
-loud = withSettings startW (set (startW .settings) 2 40)
+abbrev row : WRecord → List ℕ → WRecord → Answer → List ℕ → Row
+row w m after answer reply = record { before = w; room = 512; packet = m; turn = record { after = after; answer = answer; reply = reply } }
 
-volume-40 : seen 512 (packet own 17 (ascii "STATset VOLUME 40")) startW ≡ record { after = loud; answer = Done; reply = ok (0 ∷ 0 ∷ []) }
-unfolding packet own ok loud seen taken heardOf isOurs isBroken number inBytes turned carried saysOf readData readSet readGet valueOrder upTo isNumeral leadsZero shiftOrder isDigit decimal inDigits numeral namedBy ledBy chosenBy bytesOf packetOf textOf setWords moveWords valueWords shiftWords
-volume-40 = refl
+-- a set that is carried out, OK without data
+abbrev done : ℕ → List ℕ → WRecord → Row
+done size words after = row startW (packetFrom own size words) after Done (ok (0 ∷ 0 ∷ []))
 
--- * "Then `STATget VOLUME`: length 9, `VOLUME 40`"
-volume-asked : seen 512 (packet own 14 (ascii "STATget VOLUME")) loud ≡ record { after = loud; answer = Done; reply = ok (0 ∷ 9 ∷ ascii "VOLUME 40") }
-unfolding packet own ok loud seen taken heardOf isOurs isBroken number inBytes turned carried saysOf readData readSet readGet valueOrder upTo isNumeral leadsZero shiftOrder isDigit decimal inDigits numeral namedBy ledBy chosenBy bytesOf packetOf textOf setWords moveWords valueWords shiftWords
-volume-asked = refl
+-- 6, OK without data
+abbrev strange : ℕ → List ℕ → Row
+strange size words = row startW (packetFrom own size words) startW NotUnderstood (ok (0 ∷ 0 ∷ []))
 
--- * "VOLUME 100 is set; * 101: 6, OK without data"
-volume-100 : seen 512 (packet own 18 (ascii "STATset VOLUME 100")) startW ≡ record { after = withSettings startW (set (startW .settings) 2 100); answer = Done; reply = ok (0 ∷ 0 ∷ []) }
-unfolding packet own ok seen taken heardOf isOurs isBroken number inBytes turned carried saysOf readData readSet readGet valueOrder upTo isNumeral leadsZero shiftOrder isDigit decimal inDigits numeral namedBy ledBy chosenBy bytesOf packetOf textOf setWords moveWords valueWords shiftWords
-volume-100 = refl
+-- 5, NG
+abbrev broken : List ℕ → ℕ → Row
+broken m item = row startW m startW EnvelopeWrong (ng item)
 
-volume-101 : seen 512 (packet own 18 (ascii "STATset VOLUME 101")) startW ≡ record { after = startW; answer = NotUnderstood; reply = ok (0 ∷ 0 ∷ []) }
-unfolding packet own ok seen taken heardOf isOurs isBroken number inBytes turned carried saysOf readData readSet readGet valueOrder upTo isNumeral leadsZero shiftOrder isDigit decimal inDigits numeral namedBy ledBy chosenBy bytesOf packetOf textOf setWords moveWords valueWords shiftWords
-volume-101 = refl
+-- no reply
+abbrev refused : ℕ → List ℕ → Answer → Row
+refused room m answer = record { before = startW; room = room; packet = m; turn = left startW answer }
 
--- * "SHIFTH -30 is set; * -31 and -0: 6"
-shift-30 : seen 512 (packet own 18 (ascii "STATset SHIFTH -30")) startW ≡ record { after = withShifts startW (negsuc 29 ∷ pos 0 ∷ []); answer = Done; reply = ok (0 ∷ 0 ∷ []) }
-unfolding packet own ok seen taken heardOf isOurs isBroken number inBytes turned carried saysOf readData readSet readGet valueOrder upTo isNumeral leadsZero shiftOrder isDigit decimal inDigits numeral namedBy ledBy chosenBy bytesOf packetOf textOf setWords moveWords valueWords shiftWords
-shift-30 = refl
+-- ---- * `STATset VOLUME 40`: `03 0B 53 4F 4E 59 00 00 01 B0 00 00 00`, and the set stands in the record; * "Then `STATget VOLUME`: length
+-- 9, `VOLUME 40`"
 
-shift-31 : seen 512 (packet own 18 (ascii "STATset SHIFTH -31")) startW .answer ≡ NotUnderstood
-unfolding packet own seen taken heardOf isOurs isBroken number inBytes turned carried saysOf readData readSet readGet valueOrder upTo isNumeral leadsZero shiftOrder isDigit decimal inDigits numeral namedBy ledBy chosenBy bytesOf packetOf textOf setWords moveWords valueWords shiftWords
-shift-31 = refl
+abbrev loud : ℕ → WRecord
+loud v = withSettings startW (set (startW .settings) 2 v)
 
-shift-minus-0 : seen 512 (packet own 17 (ascii "STATset SHIFTH -0")) startW .answer ≡ NotUnderstood
-unfolding packet own seen taken heardOf isOurs isBroken number inBytes turned carried saysOf readData readSet readGet valueOrder upTo isNumeral leadsZero shiftOrder isDigit decimal inDigits numeral namedBy ledBy chosenBy bytesOf packetOf textOf setWords moveWords valueWords shiftWords
-shift-minus-0 = refl
+abbrev volume-40 : Row
+volume-40 = done 17 (ascii "STATset VOLUME 40") (loud 40)
 
--- * "Request 01h: ending `00 B0 00 00 02 F0 50`"
-request-1 : seen 512 (own ++ (0x01 ∷ 0xb0 ∷ 0x00 ∷ 0x00 ∷ 0x00 ∷ [])) startW ≡ record { after = startW; answer = EnvelopeWrong; reply = own ++ (0x00 ∷ 0xb0 ∷ 0x00 ∷ 0x00 ∷ 0x02 ∷ 0xf0 ∷ 0x50 ∷ []) }
-unfolding own seen taken heardOf isOurs isBroken number inBytes turned carried saysOf readData readSet readGet valueOrder upTo isNumeral leadsZero shiftOrder isDigit decimal inDigits numeral namedBy ledBy chosenBy bytesOf packetOf textOf setWords moveWords valueWords shiftWords
-request-1 = refl
+abbrev volume-asked : Row
+volume-asked = row (loud 40) (packetFrom own 14 (ascii "STATget VOLUME")) (loud 40) Done (ok (0 ∷ 9 ∷ ascii "VOLUME 40"))
 
--- NG echoes the item as it came
-item-b001 : seen 512 (own ++ (0x00 ∷ 0xb0 ∷ 0x01 ∷ 0x00 ∷ 0x00 ∷ [])) startW .reply ≡ own ++ (0x00 ∷ 0xb0 ∷ 0x01 ∷ 0x00 ∷ 0x02 ∷ 0xf0 ∷ 0x50 ∷ [])
-unfolding own seen taken heardOf isOurs isBroken number inBytes turned carried saysOf readData readSet readGet valueOrder upTo isNumeral leadsZero shiftOrder isDigit decimal inDigits numeral namedBy ledBy chosenBy bytesOf packetOf textOf setWords moveWords valueWords shiftWords
-item-b001 = refl
+-- ---- * "VOLUME 100 is set; * 101: 6, OK without data"
 
--- "Community `sony`: 4"; twelve bytes: 3; an area of 511: 1
-community : seen 512 (packet (0x03 ∷ 0x0b ∷ ascii "sony" ++ (0 ∷ 0 ∷ [])) 0 []) startW ≡ silent NotForUs
-unfolding packet silent seen taken heardOf isOurs isBroken number inBytes turned carried saysOf readData readSet readGet valueOrder upTo isNumeral leadsZero shiftOrder isDigit decimal inDigits numeral namedBy ledBy chosenBy bytesOf packetOf textOf setWords moveWords valueWords shiftWords
-community = refl
+abbrev volume-100 : Row
+volume-100 = done 18 (ascii "STATset VOLUME 100") (loud 100)
 
-twelve : seen 512 (own ++ (0x00 ∷ 0xb0 ∷ 0x00 ∷ 0x00 ∷ [])) startW ≡ silent WrongLength
-unfolding own silent seen taken heardOf isOurs isBroken number inBytes turned carried saysOf readData readSet readGet valueOrder upTo isNumeral leadsZero shiftOrder isDigit decimal inDigits numeral namedBy ledBy chosenBy bytesOf packetOf textOf setWords moveWords valueWords shiftWords
-twelve = refl
+abbrev volume-101 : Row
+volume-101 = strange 18 (ascii "STATset VOLUME 101")
 
-area-511 : seen 511 (packet own 17 (ascii "STATset VOLUME 40")) startW ≡ silent AreaTooSmall
-unfolding silent seen taken heardOf isOurs isBroken number inBytes turned carried saysOf readData readSet readGet valueOrder upTo isNumeral leadsZero shiftOrder isDigit decimal inDigits numeral namedBy ledBy chosenBy bytesOf packetOf textOf setWords moveWords valueWords shiftWords
-area-511 = refl
+-- ---- * "SHIFTH -30 is set; * -31 and -0: 6"
 
--- "Data length 499 in 512 bytes passes the envelope; 500 in 513: 5."
-data-499 : seen 512 (packet own 499 (replicate 499 0x41)) startW .answer ≡ NotUnderstood
-unfolding packet own seen taken heardOf isOurs isBroken number inBytes turned carried saysOf readData readSet readGet valueOrder upTo isNumeral leadsZero shiftOrder isDigit decimal inDigits numeral namedBy ledBy chosenBy bytesOf packetOf textOf setWords moveWords valueWords shiftWords
-data-499 = refl
+abbrev shift-30 : Row
+shift-30 = done 18 (ascii "STATset SHIFTH -30") (withShifts startW (negsuc 29 ∷ pos 0 ∷ []))
 
-data-500 : seen 512 (packet own 500 (replicate 500 0x41)) startW .answer ≡ EnvelopeWrong
-unfolding packet own seen taken heardOf isOurs isBroken number inBytes turned carried saysOf readData readSet readGet valueOrder upTo isNumeral leadsZero shiftOrder isDigit decimal inDigits numeral namedBy ledBy chosenBy bytesOf packetOf textOf setWords moveWords valueWords shiftWords
-data-500 = refl
+abbrev shift-31 : Row
+shift-31 = strange 18 (ascii "STATset SHIFTH -31")
 
--- a data length that does not match: 5
-data-short : seen 512 (packet own 16 (ascii "STATset VOLUME 40")) startW .answer ≡ EnvelopeWrong
-unfolding packet own seen taken heardOf isOurs isBroken number inBytes turned carried saysOf readData readSet readGet valueOrder upTo isNumeral leadsZero shiftOrder isDigit decimal inDigits numeral namedBy ledBy chosenBy bytesOf packetOf textOf setWords moveWords valueWords shiftWords
-data-short = refl
+abbrev shift-minus-0 : Row
+shift-minus-0 = strange 17 (ascii "STATset SHIFTH -0")
+
+-- ---- * "Request 01h: ending `00 B0 00 00 02 F0 50`"; another item is echoed as it came
+
+abbrev request-1 : Row
+request-1 = broken (own ++ (0x01 ∷ 0xb0 ∷ 0x00 ∷ 0x00 ∷ 0x00 ∷ [])) 0x00
+
+abbrev item-b001 : Row
+item-b001 = broken (own ++ (0x00 ∷ 0xb0 ∷ 0x01 ∷ 0x00 ∷ 0x00 ∷ [])) 0x01
+
+-- ---- "Community `sony`: 4"; twelve bytes: 3; an area of 511: 1
+
+abbrev community : Row
+community = refused 512 (packetFrom (0x03 ∷ 0x0b ∷ ascii "sony" ++ (0 ∷ 0 ∷ [])) 0 []) NotForUs
+
+abbrev twelve : Row
+twelve = refused 512 (own ++ (0x00 ∷ 0xb0 ∷ 0x00 ∷ 0x00 ∷ [])) WrongLength
+
+abbrev area-511 : Row
+area-511 = refused 511 (packetFrom own 17 (ascii "STATset VOLUME 40")) AreaTooSmall
+
+-- ---- "Data length 499 in 512 bytes passes the envelope; 500 in 513: 5."; a data length that is not the data's: 5
+
+abbrev data-499 : Row
+data-499 = strange 499 (replicate 499 0x41)
+
+abbrev data-500 : Row
+data-500 = broken (packetFrom own 500 (replicate 500 0x41)) 0x00
+
+abbrev data-short : Row
+data-short = broken (packetFrom own 16 (ascii "STATset VOLUME 40")) 0x00
+
+-- ---- the table
+
+examples : List Row
+examples =
+    volume-40 ∷ volume-asked ∷ volume-100 ∷ volume-101 ∷
+    shift-30 ∷ shift-31 ∷ shift-minus-0 ∷
+    request-1 ∷ item-b001 ∷
+    community ∷ twelve ∷ area-511 ∷
+    data-499 ∷ data-500 ∷ data-short ∷ []
+
+-- every row's turn is what the packet comes to
+tried : map (λ (r : Row). taken (r .room) (turnOf (r .packet)) (r .before)) examples ≡ map (λ (r : Row). r .turn) examples
+unfolding examples taken heardOf isOurs isBroken number inBytes turned carried saysOf readData readSet readGet valueOrder upTo isNumeral leadsZero shiftOrder isDigit decimal inDigits numeral namedBy ledBy chosenBy bytesOf packetOf textOf setWords moveWords valueWords shiftWords
+tried = refl
