@@ -103,7 +103,7 @@ by-all ns m i h g u = go (getD ns i nobody)
 -- ---- "All else addresses nobody."
 
 -- fewer than eight bytes, or a wrong version, category or community
-pub no-ids-tcp : (ns : List Name) (l : ℕ) (m area : List ℕ) (i : ℕ) → hasIds m ≡ false → addressed ns (tcp l m area) i ≡ false
+no-ids-tcp : (ns : List Name) (l : ℕ) (m area : List ℕ) (i : ℕ) → hasIds m ≡ false → addressed ns (tcp l m area) i ≡ false
 unfolding addressed target byTcp
 no-ids-tcp ns l m area i h = rw h (ne-eqb 0 (suc i) (λ z. omega arith))
 
@@ -116,9 +116,31 @@ none-called ns m i n = go (getD ns i nobody)
     go (aW g u) = n g u
     go aK = refl
 
-pub no-ids-udp : (ns : List Name) (m : List ℕ) (i : ℕ) → hasIds m ≡ false → addressed ns (udp m) i ≡ false
+no-ids-udp : (ns : List Name) (m : List ℕ) (i : ℕ) → hasIds m ≡ false → addressed ns (udp m) i ≡ false
 unfolding isCalled
 no-ids-udp ns m i h = none-called ns m i (λ g u. rw h)
+
+no-ids-short : (m : List ℕ) → length m < 8 → hasIds m ≡ false
+unfolding hasIds
+no-ids-short m h = rw (lt-leb 8 (length m) h)
+
+no-ids-foreign : (m : List ℕ) → isOurs m ≡ false → hasIds m ≡ false
+unfolding hasIds
+no-ids-foreign m f = rw (f, and-false)
+
+-- each by itself: fewer than eight bytes have no group and unit, whatever they are
+pub short-tcp : (ns : List Name) (l : ℕ) (m area : List ℕ) (i : ℕ) → length m < 8 → addressed ns (tcp l m area) i ≡ false
+short-tcp ns l m area i h = no-ids-tcp ns l m area i (no-ids-short m h)
+
+pub short-udp : (ns : List Name) (m : List ℕ) (i : ℕ) → length m < 8 → addressed ns (udp m) i ≡ false
+short-udp ns m i h = no-ids-udp ns m i (no-ids-short m h)
+
+-- and with a wrong version, category or community a group and a unit name nobody
+pub foreign-tcp : (ns : List Name) (l : ℕ) (m area : List ℕ) (i : ℕ) → isOurs m ≡ false → addressed ns (tcp l m area) i ≡ false
+foreign-tcp ns l m area i f = no-ids-tcp ns l m area i (no-ids-foreign m f)
+
+pub foreign-udp : (ns : List Name) (m : List ℕ) (i : ℕ) → isOurs m ≡ false → addressed ns (udp m) i ≡ false
+foreign-udp ns m i f = no-ids-udp ns m i (no-ids-foreign m f)
 
 -- TCP with a group and a unit that are neither 0/0 nor 1..99/1..99, as 0/5, 5/0, FFh/FFh and 1/FFh
 pub else-tcp : (ns : List Name) (l : ℕ) (m area : List ℕ) (i : ℕ) → (eqb (groupOf m) 0 && eqb (unitOf m) 0) ≡ false → (isId (groupOf m) && isId (unitOf m)) ≡ false → addressed ns (tcp l m area) i ≡ false

@@ -46,7 +46,7 @@ openedSerial m w = serial.turnOf m w
 
 -- KJW
 unfoldable openedFrames : List ℕ → KRecord → Turn KRecord
-unfolding frameForms.frameOf frameForms.lettersOf frameFormsWords.stateLetters frameTextsValues.switchWord frameTextsValues.valueOf frameTexts.bytesOf frameSets.chosenFrom frameSets.isPadded frameSets.inputOf frameSets.inputOrder frameSets.setBy frameSets.setOf frameAsks.stateNamed frameAsks.namedIn frameAsks.controlOf frameAsks.isOurs frameAsks.heardOf frameOrders.carried frames.noticed frames.replyOf frames.decided frames.turnOf
+unfolding frameForms.frameOf frameForms.lettersOf frameFormsWords.stateLetters frameTextsValues.switchWord frameTextsValues.valueOf frameTexts.bytesOf frameSets.chosenFrom frameSets.isPadded frameSets.isVolume frameSets.volumeOrder frameSets.inputOf frameSets.inputOrder frameSets.setBy frameSets.setOf frameAsks.stateNamed frameAsks.namedIn frameAsks.controlOf frameAsks.enquiryOf frameAsks.isOurs frameAsks.heardOf frameOrders.carried frames.noticed frames.replyOf frames.decided frames.turnOf
 openedFrames m k = frames.turnOf m k
 
 -- SDCP and VMC
