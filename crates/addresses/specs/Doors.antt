@@ -1,4 +1,4 @@
--- For the contracts of the code: the door of the box as it is read off what the panels are called by. That it is the step's door
+-- For the contracts of the code alone: the door of the box as it is read off what the panels are called by. That it is the step's door
 -- is proved in ways_in.
 use Prim.Native.Nat.{ℕ, _-_}
 use mathlib.Core.Bool.{Bool, cond}

@@ -83,8 +83,7 @@ listed-every f (y ∷ l) x a e = pick (eqb x y) refl e (listed-every f l x (and-
 -- numbers within their bounds stay so where one is set to a number within
 pub within-set : (l bs : List ℕ) (k v : ℕ) → within l bs ≡ true → v ≤ getD bs k v → within (set l k v) bs ≡ true
 within-set [] bs k v e h = e
-within-set (x ∷ l) [] zero v e h = refl
-within-set (x ∷ l) [] (suc k) v e h = refl
+within-set (x ∷ l) [] k v e h = absurd (false-true e)
 within-set (x ∷ l) (b ∷ bs) zero v e h = and-both (leb v b) (within l bs) (le-leb v b h) (and-second (leb x b) (within l bs) e)
 within-set (x ∷ l) (b ∷ bs) (suc k) v e h = and-both (leb x b) (within (set l k v) bs) (and-first (leb x b) (within l bs) e) (within-set l bs k v (and-second (leb x b) (within l bs) e) h)
 
@@ -158,11 +157,11 @@ bound-at (b ∷ bs) zero v h = h
 bound-at (b ∷ bs) (suc k) v h = bound-at bs k v h
 
 -- numbers within their bounds: each is at most its own
-pub within-at : (l bs : List ℕ) (k : ℕ) → within l bs ≡ true → length l ≡ length bs → getD l k 0 ≤ getD bs k 0
-within-at [] bs k e h = omega arith
-within-at (x ∷ l) [] k e h = absurd (omega arith)
-within-at (x ∷ l) (b ∷ bs) zero e h = leb-true x b (and-first (leb x b) (within l bs) e)
-within-at (x ∷ l) (b ∷ bs) (suc k) e h = within-at l bs k (and-second (leb x b) (within l bs) e) (omega arith)
+pub within-at : (l bs : List ℕ) (k : ℕ) → within l bs ≡ true → getD l k 0 ≤ getD bs k 0
+within-at [] bs k e = omega arith
+within-at (x ∷ l) [] k e = absurd (false-true e)
+within-at (x ∷ l) (b ∷ bs) zero e = leb-true x b (and-first (leb x b) (within l bs) e)
+within-at (x ∷ l) (b ∷ bs) (suc k) e = within-at l bs k (and-second (leb x b) (within l bs) e)
 
 -- what is asked of every element is asked of each
 pub every-at : {A : Type 0} (f : A → Bool) (l : List A) (k : ℕ) (d : A) → every f l ≡ true → k < length l → f (getD l k d) ≡ true

@@ -19,10 +19,10 @@ abbrev pub listed : List ℕ → ℕ → Bool
 listed [] x = false
 listed (y ∷ ys) x = eqb x y || listed ys x
 
--- each number is at most the bound that stands at its place
+-- each number is at most the bound that stands at its place; a number without a bound is out of range
 abbrev pub within : List ℕ → List ℕ → Bool
 within [] bs = true
-within (x ∷ xs) [] = true
+within (x ∷ xs) [] = false
 within (x ∷ xs) (b ∷ bs) = leb x b && within xs bs
 
 -- f at each of n places, from place i on

@@ -93,9 +93,9 @@ pub fn is_listed(numbers: &[u8], x: u8) -> bool
 pub fn are_within(numbers: &[u8], bounds: &[u8]) -> bool
     ensures { λ r. ⌜ r ≡ within (now (numbers .entry)) (now (bounds .entry)) ⌝ }
 {
-    let mut n = numbers.len();
+    let n = numbers.len();
     if bounds.len() < n {
-        n = bounds.len();
+        return false;
     }
     let mut ok = true;
     let mut i = 0;

@@ -12,7 +12,8 @@ use lib.ListN.{length, getD, drop}
 use lib.Pow.{field, mod-mod-pow, shr-shr}
 use lib.Seq.{getD-drop}
 use borrow.Author.Tests.{eqb-true, eqb-false}
-use Rattle.rs232c_levels.specs.Levels.{Say, silent, say, said, decode, put, puts}
+use Rattle.rs232c_levels.specs.Levels.{Say, silent, say, decode, put, puts}
+use Rattle.rs232c_levels.specs.Places.{said}
 
 none : ones 0 ≡ 0
 unfolding ones onesIn

@@ -13,10 +13,6 @@ pub data Say : Type 0 where
   silent : Say
   say : ℕ → Say
 
--- what a mask that begins at this place says of it
-abbrev pub said : ℕ → ℕ → Say
-said mask v = cond (eqb (mask % 2) 1) (say v) silent
-
 -- "Values follow from the lowest marked bit up": what is said of n places, by a mask and its values
 unfoldable pub decode : ℕ → ℕ → List ℕ → List Say
 decode zero mask vs = []

@@ -5,7 +5,8 @@ ghost use mathlib.Core.Path.{_≡_};
 ghost use Prim.Native.Nat.{_≤_};
 ghost use lib.ListN.{getD, take, drop};
 ghost use Rattle.rs232c_asks.specs.Asks.{valuesOf};
-ghost use Rattle.rs232c_levels.specs.Levels.{gainOf, biasOf, said, put, decode, puts, balancedBy};
+ghost use Rattle.rs232c_levels.specs.Levels.{gainOf, biasOf, put, decode, puts, balancedBy};
+ghost use Rattle.rs232c_levels.specs.Places.{said};
 use octets::ones_of;
 
 // 40h: value j of those that follow the mask, low byte first; the checksum is no part of a value.

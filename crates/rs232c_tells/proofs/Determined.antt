@@ -6,7 +6,8 @@ use lib.ListN.{length}
 use Rattle.laws.specs.Bytes.{Sent}
 use Rattle.panels.specs.declared.WRecord.{WRecord}
 use Rattle.rs232c_asks.specs.declared.Order.{Order}
-use Rattle.rs232c_tells.specs.Texts.{bytesOf, fitting, replyTo}
+use Rattle.rs232c_tells.specs.Room.{fitting}
+use Rattle.rs232c_tells.specs.Texts.{bytesOf, replyTo}
 use Rattle.rs232c_tells.specs.declared.Reply.{Reply}
 
 pub reply-to-one : (source : ℕ) (o : Order) (w : WRecord) (r r′ : Reply) → r ≡ replyTo source o w → r′ ≡ replyTo source o w → r ≡ r′

@@ -3,7 +3,7 @@ use Prim.Native.Nat.{ℕ, _<_, _≤_}
 use mathlib.Core.Path.{_≡_}
 use mathlib.Core.List.{List, []}
 use borrow.Author.Tests.{lt-ltb, le-ltb}
-use Rattle.rs232c_tells.specs.Texts.{fitting}
+use Rattle.rs232c_tells.specs.Room.{fitting}
 
 pub none-fits : (room : ℕ) (reply : List ℕ) → room < 13 → fitting room reply ≡ []
 unfolding fitting

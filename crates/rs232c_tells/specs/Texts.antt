@@ -2,7 +2,7 @@
 use Prim.Native.Nat.{ℕ, _+_, _-_, _/_, _%_}
 use mathlib.Core.Bool.{cond}
 use mathlib.Core.List.{List, [], _∷_, _++_}
-use lib.Dec.{eqb, ltb}
+use lib.Dec.{eqb}
 use lib.ListN.{length, getD}
 use lib.IntN.{ℤ, pos, negsuc}
 use Rattle.sums.specs.Sums.{sumOf}
@@ -39,10 +39,6 @@ bytesOf (Ack to) = frameOf to (4 ∷ [])
 bytesOf (Nak to) = frameOf to (5 ∷ [])
 bytesOf (State to on) = frameOf to (0x7e ∷ on ∷ [])
 bytesOf (Balances to which v) = frameOf to (balancesBlock which v)
-
--- a reply goes back whole or not at all: an area with no room for the longest, 71h in 13 bytes, is left as it is
-unfoldable pub fitting : ℕ → List ℕ → List ℕ
-fitting room reply = cond (ltb room 13) [] reply
 
 -- the eleven bits of a bias, and the twelve of a gain: "unused upper bits are 0"
 unfoldable pub biasBits : ℤ → ℕ

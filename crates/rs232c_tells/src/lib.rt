@@ -8,7 +8,8 @@ ghost use mathlib.Core.Path.{_≡_};
 ghost use Prim.Native.Nat.{_≤_};
 ghost use lib.ListN.{length};
 ghost use Rattle.laws.specs.Bytes.{Sent};
-ghost use Rattle.rs232c_tells.specs.Texts.{frameOf, balancesBlock, bytesOf, fitting, biasBits, sensed, replyTo};
+ghost use Rattle.rs232c_tells.specs.Room.{fitting};
+ghost use Rattle.rs232c_tells.specs.Texts.{frameOf, balancesBlock, bytesOf, biasBits, sensed, replyTo};
 use rs232c_asks::Order;
 
 // The command blocks that go back: ACK, NAK, and the codes of the replies to 6Eh and 61h.

@@ -7,7 +7,8 @@ use Rattle.terms.specs.declared.Answer.{Answer}
 use Rattle.panels.specs.declared.DisplayBox.{DisplayBox}
 use Rattle.script_text.specs.Texts.{numberText}
 use Rattle.script_text.proofs.Puts.{puts-one}
-use Rattle.script_answers.specs.Answers.{Effect, Answers, Ends, writes, replied}
+use Rattle.script_answers.specs.Answers.{Effect, Answers, writes, replied}
+use Rattle.script_answers.specs.Endings.{Ends}
 use Rattle.script_answers.specs.declared.Answered.{Answered}
 
 -- two outcomes agree: box, length of the text, and every lent byte

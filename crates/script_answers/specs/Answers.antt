@@ -36,8 +36,3 @@ replied a len area = replyText (numberOf a) (take len area) (drop len area)
 pub record Answers (o : Effect) (r : Answered) (area area′ : List ℕ) : Type 0 where
   pub box-is : r .after ≡ o .box
   pub text-is : Puts (o .text) area 0 area′ (r .len)
-
--- a text that was put up to a place ends there
-pub record Ends (b : DisplayBox) (at : ℕ) (r : Answered) (area area′ : List ℕ) : Type 0 where
-  pub box-is : r .after ≡ b
-  pub text-is : Puts (0x0a ∷ []) area at area′ (r .len)

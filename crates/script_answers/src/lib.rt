@@ -9,7 +9,8 @@ ghost use mathlib.Core.Path.{_≡_};
 ghost use lib.ListN.{length, take};
 ghost use Rattle.terms.specs.Answers.{numberOf};
 ghost use Rattle.script_text.specs.Texts.{numberText};
-ghost use Rattle.script_answers.specs.Answers.{Answers, Ends, writes, replied};
+ghost use Rattle.script_answers.specs.Answers.{Answers, writes, replied};
+ghost use Rattle.script_answers.specs.Endings.{Ends};
 
 // What a line did: the box after it, and the length of its text.
 pub struct Answered {

@@ -32,9 +32,9 @@ abbrev pub present : ℕ → WRecord → Order
 present k w = cond (ltb k settingCount) (Set k (getD (w .settings) k 0)) (Shift (k - settingCount) (getD (w .shifts) (k - settingCount) (pos 0)))
 
 -- each STATget's words, put behind `STATset `, are understood and order the present value
-pub told-back : (k : ℕ) (w : WRecord) → okW w ≡ true → length (w .settings) ≡ settingCount → length (w .shifts) ≡ 2 → k < nameCount → readData (ascii "STATset " ++ textOf (saysOf (Get k) w)) ≡ Understood (present k w)
+pub told-back : (k : ℕ) (w : WRecord) → okW w ≡ true → length (w .shifts) ≡ 2 → k < nameCount → readData (ascii "STATset " ++ textOf (saysOf (Get k) w)) ≡ Understood (present k w)
 unfolding saysOf textOf
-told-back k w v s t h = go (ltb k settingCount) refl
+told-back k w v t h = go (ltb k settingCount) refl
   where
     value : ℕ
     value = getD (w .settings) k 0
@@ -43,7 +43,7 @@ told-back k w v s t h = go (ltb k settingCount) refl
     offset = getD (w .shifts) (k - settingCount) (pos 0)
 
     go : (b : Bool) → ltb k settingCount ≡ b → readData (ascii "STATset " ++ textOf (cond b (Value k value) (Offset k offset))) ≡ Understood (cond b (Set k value) (Shift (k - settingCount) offset))
-    go true e = set-back k value (ltb-true k settingCount e) (within-at (w .settings) mosts k (parts w v .settings-ok) s)
+    go true e = set-back k value (ltb-true k settingCount e) (within-at (w .settings) mosts k (parts w v .settings-ok))
     go false e =
         let l = ltb-false k settingCount e in
         let q : k ≡ settingCount + (k - settingCount) = omega arith in

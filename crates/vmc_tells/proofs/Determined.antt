@@ -1,6 +1,6 @@
 -- Each promise at the door allows one outcome: its equations have the same right sides.
 use mathlib.Core.Path.{_≡_, sym, _∙_}
-use Rattle.vmc_tells.specs.Texts.{spelled}
+use Rattle.vmc_tells.specs.Phrases.{spelled}
 use Rattle.vmc_tells.specs.declared.Text.{Text}
 use Rattle.vmc_tells.specs.declared.Says.{Says}
 

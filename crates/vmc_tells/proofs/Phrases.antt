@@ -13,7 +13,7 @@ use Rattle.laws.specs.Bytes.{laid}
 use Rattle.laws.proofs.Areas.{laid-fits, laid-first, laid-more, over-front}
 use Rattle.decimals.specs.Decimals.{inDigits, numeral, spelled}
 use Rattle.decimals.specs.declared.Numeral.{Numeral}
-use Rattle.vmc_tells.specs.Texts.{textual}
+use Rattle.vmc_tells.specs.Phrases.{textual}
 use Rattle.vmc_tells.specs.declared.Text.{Text}
 
 zeros : ℕ → List ℕ

@@ -1,9 +1,8 @@
 -- Document 01, "SDCP and VMC": "OK carries the words that would set the present value, as `VOLUME 40`, `MODE2`,
 -- `CAMERA FOCUS OFF`, `SHIFTH +5`, `SHIFTH 0` (house)."
-use Prim.Native.Nat.{ℕ, _+_, _-_}
+use Prim.Native.Nat.{ℕ, _+_}
 use mathlib.Core.Bool.{cond}
 use mathlib.Core.List.{List, [], _∷_, _++_}
-use lib.ListN.{length, replicate}
 use lib.Dec.{eqb, ltb}
 use lib.IntN.{ℤ, pos, negsuc}
 use Rattle.laws.specs.Bytes.{ascii}
@@ -12,7 +11,6 @@ use Rattle.settings.specs.Table.{levelCount}
 use Rattle.setting_texts.specs.Names.{leadOf, wordOf}
 use Rattle.vmc_tells.specs.declared.Says.{Says}
 use Rattle.vmc_tells.specs.declared.Says.the-variants.{Bare, Value, Offset}
-use Rattle.vmc_tells.specs.declared.Text.{Text}
 
 -- the words of a value: a level's number, or a choice's word
 unfoldable pub valueWords : ℕ → ℕ → List ℕ
@@ -42,10 +40,3 @@ unfoldable pub textOf : Says → List ℕ
 textOf Bare = []
 textOf (Value k v) = setWords k v
 textOf (Offset k z) = moveWords k z
-
--- words at the front of twenty bytes, with their length
-unfoldable pub textual : List ℕ → Text
-textual l = record { bytes = l ++ replicate (20 - length l) 0; len = length l }
-
-abbrev pub spelled : Says → Text
-spelled t = textual (textOf t)

@@ -12,7 +12,8 @@ ghost use mathlib.Core.List.{_++_};
 ghost use lib.ListN.{length};
 ghost use Rattle.decimals.specs.Decimals.{numeral};
 ghost use Rattle.setting_texts.specs.Names.{leadOf, wordOf};
-ghost use Rattle.vmc_tells.specs.Texts.{sizeOf, signOf, shiftWords, setWords, textual, spelled};
+ghost use Rattle.vmc_tells.specs.Phrases.{textual, spelled};
+ghost use Rattle.vmc_tells.specs.Texts.{sizeOf, signOf, shiftWords, setWords};
 
 // What an order is told: nothing, a setting's value, or a shift.
 pub enum Says {

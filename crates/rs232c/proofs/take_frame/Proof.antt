@@ -7,7 +7,8 @@ use borrow.Author.Needs.{needs}
 use native.Mathlib.Omega.{arith}
 use Rattle.rs232c_asks.specs.Asks.{heardOf, valuesOf}
 use Rattle.laws.specs.Bytes.{Sent}
-use Rattle.rs232c_tells.specs.Texts.{bytesOf, fitting}
+use Rattle.rs232c_tells.specs.Room.{fitting}
+use Rattle.rs232c_tells.specs.Texts.{bytesOf}
 use Rattle.rs232c_tells.proofs.Fitting.{all-fits}
 use Rattle.rs232c.specs.Replies.{turned, turnOf}
 use Rattle.turns.proofs.Turns.{takes-small, takes-turn}

@@ -10,7 +10,8 @@ use lib.IntN.{ℤ, pos}
 use mir.Syntax.{w16}
 use mir.Facts.{toZ-ofZ}
 use Rattle.rs232c_asks.specs.Asks.{valuesOf}
-use Rattle.rs232c_levels.specs.Levels.{Say, silent, say, said, decode, biasOf, put, puts}
+use Rattle.rs232c_levels.specs.Levels.{Say, silent, say, decode, biasOf, put, puts}
+use Rattle.rs232c_levels.specs.Places.{said}
 use lib.Count.{ones}
 use Rattle.rs232c_levels.proofs.Signed.{bias-fits}
 use Rattle.rs232c_levels.proofs.Decode.{decode-at, puts-length, puts-at, three-are}

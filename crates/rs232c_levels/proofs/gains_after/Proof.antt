@@ -7,7 +7,8 @@ use lib.Seq.{getD-take}
 use borrow.Author.Needs.{needs}
 use native.Mathlib.Omega.{arith}
 use Rattle.rs232c_asks.specs.Asks.{valuesOf}
-use Rattle.rs232c_levels.specs.Levels.{Say, silent, said, decode, gainOf, put, puts}
+use Rattle.rs232c_levels.specs.Levels.{Say, silent, decode, gainOf, put, puts}
+use Rattle.rs232c_levels.specs.Places.{said}
 use Rattle.rs232c_levels.proofs.Decode.{decode-at, puts-length, puts-at, three-are}
 use native.Mathlib.Nat.{div-one, mod-one}
 use lib.Count.{ones, onesIn}

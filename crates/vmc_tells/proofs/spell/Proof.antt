@@ -7,7 +7,8 @@ use mir.Val.{toZ, ofZ}
 use mir.Facts.{toZ-ofZ}
 use borrow.Author.Needs.{needs}
 use Rattle.setting_texts.specs.Names.{leadOf}
-use Rattle.vmc_tells.specs.Texts.{shiftWords, moveWords, textOf, textual}
+use Rattle.vmc_tells.specs.Phrases.{textual}
+use Rattle.vmc_tells.specs.Texts.{shiftWords, moveWords, textOf}
 use Rattle.vmc_tells.proofs.spell.Statement.{statement}
 use Rattle.vmc_tells.proofs.spell.Tie as tie
 

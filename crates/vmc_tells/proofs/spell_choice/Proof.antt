@@ -8,7 +8,7 @@ use native.Mathlib.Omega.{arith}
 use Rattle.laws.specs.Bytes.{laid}
 use Rattle.setting_texts.specs.Names.{leadOf, wordOf}
 use Rattle.setting_texts.proofs.Sizes.{short-word}
-use Rattle.vmc_tells.specs.Texts.{textual}
+use Rattle.vmc_tells.specs.Phrases.{textual}
 use Rattle.vmc_tells.proofs.Phrases.{front}
 use Rattle.vmc_tells.proofs.spell_choice.Statement.{statement}
 use Rattle.vmc_tells.proofs.spell_choice.Tie as tie

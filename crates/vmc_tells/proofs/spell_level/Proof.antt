@@ -6,7 +6,7 @@ use lib.ListN.{length}
 use borrow.Author.Needs.{needs}
 use native.Mathlib.Omega.{arith}
 use Rattle.setting_texts.specs.Names.{leadOf}
-use Rattle.vmc_tells.specs.Texts.{textual}
+use Rattle.vmc_tells.specs.Phrases.{textual}
 use Rattle.vmc_tells.proofs.Phrases.{numeral-short, digits-front, digits-length}
 use Rattle.vmc_tells.proofs.spell_level.Statement.{statement}
 use Rattle.vmc_tells.proofs.spell_level.Tie as tie

@@ -11,7 +11,8 @@ use mir.Syntax.{w8}
 use mir.Val.{toZ, ofZ}
 use mir.Facts.{toZ-ofZ, toZ-pos}
 use Rattle.setting_texts.specs.Names.{leadOf}
-use Rattle.vmc_tells.specs.Texts.{sizeOf, signOf, shiftWords, textual}
+use Rattle.vmc_tells.specs.Phrases.{textual}
+use Rattle.vmc_tells.specs.Texts.{sizeOf, signOf, shiftWords}
 use Rattle.vmc_tells.proofs.Phrases.{numeral-short, digits-length, signed-front}
 use Rattle.vmc_tells.proofs.spell_shift.Statement.{statement}
 use Rattle.vmc_tells.proofs.spell_shift.Tie as tie
