@@ -13,7 +13,7 @@ pub record Alone {B C M A R : Type 0} (sound : B → Type 0) (names : B → C) (
   pub stays-sound : (b : B) (m : M) → sound b → sound (step b m)
   pub names-after : (b : B) (m : M) → sound b → names (step b m) ≡ next (names b) m
   pub names-kept : (c : C) (m : M) → kept c m ≡ false → next c m ≡ c
-  pub left : (b : B) (m : M) → sound b → kept (names b) m ≡ false → place (step b m) ≡ place b
+  pub unmeant : (b : B) (m : M) → sound b → kept (names b) m ≡ false → place (step b m) ≡ place b
   pub turns : (b : B) (m : M) → sound b → kept (names b) m ≡ true → place (step b m) ≡ turn (names b) m (place b)
   pub says-so : (b : B) (m : M) → sound b → kept (names b) m ≡ true → heard b m ≡ says (names b) m (place b)
 
@@ -33,7 +33,7 @@ module _ {B C M A R : Type 0} {sound : B → Type 0} {names : B → C} {place : 
     where
       go : (k : Bool) → kept (names b) m ≡ k → place (runBy step (step b m) ms) ≡ life (names (step b m)) (place (step b m)) (keptBy next kept (names (step b m)) ms) → place (runBy step (step b m) ms) ≡ life (names b) (place b) (cond k (m ∷ keptBy next kept (next (names b) m) ms) (keptBy next kept (next (names b) m) ms))
       go true e h = rw (l .names-after b m s, l .turns b m s e) at h
-      go false e h = rw (l .names-kept (names b) m e) (rw (l .names-after b m s ∙ l .names-kept (names b) m e, l .left b m s e) at h)
+      go false e h = rw (l .names-kept (names b) m e) (rw (l .names-after b m s ∙ l .names-kept (names b) m e, l .unmeant b m s e) at h)
 
   hears : (ms : List M) (b : B) → sound b → heardBy step (λ x m. kept (names x) m) heard b ms ≡ words (names b) (place b) (keptBy next kept (names b) ms)
   hears [] b s = refl
@@ -41,7 +41,7 @@ module _ {B C M A R : Type 0} {sound : B → Type 0} {names : B → C} {place : 
     where
       go : (k : Bool) → kept (names b) m ≡ k → heardBy step (λ x m. kept (names x) m) heard (step b m) ms ≡ words (names (step b m)) (place (step b m)) (keptBy next kept (names (step b m)) ms) → cond k (heard b m ∷ heardBy step (λ x m. kept (names x) m) heard (step b m) ms) (heardBy step (λ x m. kept (names x) m) heard (step b m) ms) ≡ words (names b) (place b) (cond k (m ∷ keptBy next kept (next (names b) m) ms) (keptBy next kept (next (names b) m) ms))
       go true e h = rw (l .says-so b m s e) (ap (λ (r : List R). says (names b) m (place b) ∷ r) (rw (l .names-after b m s, l .turns b m s e) at h))
-      go false e h = rw (l .names-kept (names b) m e) (rw (l .names-after b m s ∙ l .names-kept (names b) m e, l .left b m s e) at h)
+      go false e h = rw (l .names-kept (names b) m e) (rw (l .names-after b m s ∙ l .names-kept (names b) m e, l .unmeant b m s e) at h)
 
   -- two runs that keep the same messages for the place, from boxes that agree on it
   pub isolated : (b b′ : B) (ms ms′ : List M) → sound b → sound b′ → names b ≡ names b′ → place b ≡ place b′ → keptBy next kept (names b) ms ≡ keptBy next kept (names b′) ms′ → (place (runBy step b ms) ≡ place (runBy step b′ ms′)) × (heardBy step (λ x m. kept (names x) m) heard b ms ≡ heardBy step (λ x m. kept (names x) m) heard b′ ms′)

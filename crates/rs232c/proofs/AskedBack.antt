@@ -41,7 +41,7 @@ pub with-room : (room s : ℕ) (o : Order) (m : List ℕ) (w : WRecord) → 512 
 unfolding taken turned
 with-room room s o m w r e = rw (le-ltb room 512 r, e)
 
--- "0, carried out": what is understood and answered 0 comes to what its definition says
+-- 0: "carried out": what is understood and answered 0 comes to what its definition says
 pub done : (room s : ℕ) (o : Order) (m : List ℕ) (w : WRecord) → taken room (turnOf m) w .answer ≡ Done → heardOf m ≡ Understood s o → taken room (turnOf m) w ≡ obeyed s o m w
 done room s o m w d e = with-room room s o m w (done-room room (turnOf m) w d) e
 

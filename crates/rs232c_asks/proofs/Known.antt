@@ -12,7 +12,7 @@ use Rattle.laws.specs.Lists.{listed}
 use Rattle.laws.proofs.Conditions.{and-first, and-second, choose}
 use Rattle.terms.specs.Answers.{numberOf}
 use Rattle.terms.specs.declared.Answer.the-variants.{WrongLength, NotForUs}
-use Rattle.rs232c_asks.specs.Asks.{sourceOf, codeOf, dataOf, isForeign, isBroken, first, second, configCommand, selectCommand, levelsCommand, senseCommand, remoteCommand, commandOf, heardOf, words, valuesOf}
+use Rattle.rs232c_asks.specs.Asks.{sourceOf, codeOf, dataOf, isForeign, isBroken, first, second, configCommand, selectCommand, levelsCommand, senseCommand, remoteCommand, commandOf, heardOf, valuesIn, valuesOf}
 use Rattle.rs232c_asks.specs.Commands.{configGood, selectGood}
 use Rattle.rs232c_asks.specs.declared.Order.{Order}
 use Rattle.rs232c_asks.specs.declared.Order.the-variants.{Config, Select, Levels, Sense, Remote}
@@ -94,14 +94,14 @@ pub understood-known : (m : List ℕ) (s : ℕ) (o : Order) → heardOf m ≡ Un
 understood-known m s o e = subst (Known (codeOf m) (dataOf m)) e (heard-known m)
 
 -- two bytes make a value
-words-counted : (l : List ℕ) (n : ℕ) → length l ≡ 2 * n → length (words l) ≡ n
-words-counted [] n e = omega arith
-words-counted (x ∷ []) n e = absurd (omega arith)
-words-counted (x ∷ y ∷ l) zero e = absurd (omega arith)
-words-counted (x ∷ y ∷ l) (suc n) e = ap suc (words-counted l n (omega arith))
+pairs-counted : (l : List ℕ) (n : ℕ) → length l ≡ 2 * n → length (valuesIn l) ≡ n
+pairs-counted [] n e = omega arith
+pairs-counted (x ∷ []) n e = absurd (omega arith)
+pairs-counted (x ∷ y ∷ l) zero e = absurd (omega arith)
+pairs-counted (x ∷ y ∷ l) (suc n) e = ap suc (pairs-counted l n (omega arith))
 
 -- a 40h that is understood has a value for each one in bits 0 to 5 of its mask
 pub values-counted : (m : List ℕ) (s mask : ℕ) → heardOf m ≡ Understood s (Levels mask) → length (valuesOf m) ≡ ones (mask % 64)
 values-counted m s mask e =
     let n = understood-known m s (Levels mask) e .1 in
-    words-counted (drop 1 (dataOf m)) (ones (mask % 64)) (simp length-drop (omega (arith, n)))
+    pairs-counted (drop 1 (dataOf m)) (ones (mask % 64)) (simp length-drop (omega (arith, n)))

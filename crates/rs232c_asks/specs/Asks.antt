@@ -92,10 +92,10 @@ heardOf m =
     (commandOf (sourceOf m) (codeOf m) (dataOf m))))
 
 -- ---- the values of a 40h: "two bytes each, low first", behind the mask; a byte that is left over is no value
-abbrev pub words : List ℕ → List ℕ
-words [] = []
-words (l ∷ []) = []
-words (l ∷ h ∷ bs) = (l + 256 * h) ∷ words bs
+abbrev pub valuesIn : List ℕ → List ℕ
+valuesIn [] = []
+valuesIn (l ∷ []) = []
+valuesIn (l ∷ h ∷ bs) = (l + 256 * h) ∷ valuesIn bs
 
 abbrev pub valuesOf : List ℕ → List ℕ
-valuesOf m = words (drop 1 (dataOf m))
+valuesOf m = valuesIn (drop 1 (dataOf m))

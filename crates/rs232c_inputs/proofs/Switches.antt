@@ -1,4 +1,4 @@
--- What OFF leaves of the ten connectors: a good 22h names one of them, and "all others are OFF" is asked of each in turn.
+-- What OFF leaves of the ten connectors: a good 22h names one of them, and whether all others are OFF is asked of each in turn.
 use mathlib.Core.Path.{_≡_, refl, sym, _∙_}
 use mathlib.Core.Bool.{Bool, true, false, cond, _||_}
 use mathlib.Core.List.{List, [], _∷_}

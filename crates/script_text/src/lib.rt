@@ -8,7 +8,7 @@ ghost use Rattle.decimals.specs.Plain.{plain};
 ghost use Rattle.script_text.specs.Puts.{Puts};
 ghost use Rattle.script_text.specs.Texts.{glyph, pairs, hexText, numberText, bytesText, signedText, spoiledBy, replyText};
 
-// "a reply area of AREA bytes, each A5h"
+// "a reply area of AREA bytes [..], each A5h"
 pub const FILLER: u8 = 165;
 
 // Puts a text from a place on, and answers the place behind it.

@@ -8,8 +8,8 @@ use Rattle.terms.specs.declared.Answer.{Answer}
 pub text-length-one : (t : List ℕ) (r r′ : ℕ) → r ≡ textLength t → r′ ≡ textLength t → r ≡ r′
 text-length-one t r r′ p q = p ∙ sym q
 
-pub judge-one : (category power error : ℕ) (product location region name : List ℕ) (r r′ : Answer) → r ≡ verdict category power error product location region name → r′ ≡ verdict category power error product location region name → r ≡ r′
-judge-one category power error product location region name r r′ p q = p ∙ sym q
+pub verdict-of-one : (category power error : ℕ) (product location region name : List ℕ) (r r′ : Answer) → r ≡ verdict category power error product location region name → r′ ≡ verdict category power error product location region name → r ≡ r′
+verdict-of-one category power error product location region name r r′ p q = p ∙ sym q
 
 pub write-answer-one : (room category power error : ℕ) (product location region name : List ℕ) (r r′ : Answer) → r ≡ writeVerdict room category power error product location region name → r′ ≡ writeVerdict room category power error product location region name → r ≡ r′
 write-answer-one room category power error product location region name r r′ p q = p ∙ sym q

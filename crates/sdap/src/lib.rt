@@ -102,7 +102,7 @@ fn is_filled(
 }
 
 // The rules that reader and writer share: 4 for the category, 5 for the rest.
-pub fn judge(
+pub fn verdict_of(
     category: u8,
     power: u16,
     error: u16,
@@ -171,5 +171,5 @@ pub fn write_answer(
     if !is_sized(product, location, region, name) {
         return Answer::WrongLength;
     }
-    judge(category, power, error, product, location, region, name)
+    verdict_of(category, power, error, product, location, region, name)
 }

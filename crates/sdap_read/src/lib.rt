@@ -5,7 +5,7 @@ use octets::number4;
 use octets::same_bytes;
 use sdap::Advert;
 use sdap::Read;
-use sdap::judge;
+use sdap::verdict_of;
 use terms::Answer;
 use terms::GroupId;
 use terms::UnitId;
@@ -148,7 +148,7 @@ pub fn read_answer(s: &[u8]) -> Answer
     }
     let power = number2_at(s, 24);
     let error = number2_at(s, 70);
-    judge(
+    verdict_of(
         s[3],
         power,
         error,

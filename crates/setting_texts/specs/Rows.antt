@@ -15,9 +15,9 @@ abbrev pub textOf : ℕ → List ℕ
 textOf row = getD (leads ++ values) row []
 
 -- the texts in rows of 13 places, as the code holds them
-abbrev pub laid : List (List ℕ) → List ℕ
-laid [] = []
-laid (t ∷ ts) = t ++ (replicate (13 - length t) 95 ++ laid ts)
+abbrev pub inRows : List (List ℕ) → List ℕ
+inRows [] = []
+inRows (t ∷ ts) = t ++ (replicate (13 - length t) 95 ++ inRows ts)
 
 abbrev pub rows : List ℕ
-rows = laid (leads ++ values)
+rows = inRows (leads ++ values)

@@ -21,7 +21,7 @@ use Rattle.steps.specs.Addressing.{addressed}
 use Rattle.steps.specs.Step.{turn, Back, back, panelAt, ownTurn, Outcome, passed, refused, door, step}
 use Rattle.steps.specs.Run.{Got, gotBy, after, run, next, kept, replies}
 use Rattle.steps.proofs.Door.{opens}
-use Rattle.steps.proofs.Turns.{at-step, left, own-answer, own-back}
+use Rattle.steps.proofs.Turns.{at-step, unmeant, own-answer, own-back}
 use Rattle.steps.proofs.Validity.{places-kept, names-kept}
 
 -- what a panel that is addressed becomes, and what goes back for it: its turn, if the door is passed
@@ -52,7 +52,7 @@ alone i = record {
   stays-sound = λ b m h. rw (places-kept b m) h;
   names-after = λ b m h. names-kept b m;
   names-kept = λ ns m e. refl;
-  left = λ b m h e. left b m i e;
+  unmeant = λ b m h e. unmeant b m i e;
   turns = λ b m h e. turn-step b m i e;
   says-so = λ b m h e. got-step b m i e;
 }

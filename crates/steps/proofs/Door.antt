@@ -92,7 +92,7 @@ lent-door ns (by-rs232c m) = (Done, refl)
 lent-door ns (by-kjw m) = (Done, refl)
 lent-door {l} {area} ns (by-tcp m) = (cond (eqb (target ns (tcp l m area)) 0) (toNobody m) Done, refl)
 
--- "1 reply area under 512 bytes", "2 no panel with that link number, or it is of the other family": past them, neither applies
+-- 1: "reply area under 512 bytes"; 2: "no panel with that link number, or it is of the other family": past them, neither applies
 pub record Lent (area : List ℕ) (fits : Bool) : Type 0 where
   pub room : 512 ≤ length area
   pub link-fits : fits ≡ true

@@ -73,11 +73,11 @@ stopped : (b : DisplayBox) (m : Message) (a : Answer) → door (names b) m ≡ a
 unfolding step
 stopped b m a d z = rw (d, z)
 
--- "1 reply area under 512 bytes": the first check, whatever the box, the link and the bytes
+-- 1: "reply area under 512 bytes": the first check, whatever the box, the link and the bytes
 pub too-small : (b : DisplayBox) (l : ℕ) (area : List ℕ) (m : Message) → Lends l area m → length area < 512 → step b m ≡ refused b m AreaTooSmall
 too-small b l area m k h = stopped b m AreaTooSmall (lent-door (names b) k .1 ∙ rw (lt-ltb (length area) 512 h)) refl
 
--- "2 no panel with that link number, or it is of the other family"
+-- 2: "no panel with that link number, or it is of the other family"
 pub no-such-panel : (b : DisplayBox) (l : ℕ) (area : List ℕ) (m : Message) → Lends l area m → 512 ≤ length area → speaks m (onLink (names b) l) ≡ false → step b m ≡ refused b m NoSuchPanel
 no-such-panel b l area m k h s = stopped b m NoSuchPanel (lent-door (names b) k .1 ∙ rw (le-ltb (length area) 512 h, s)) refl
 

@@ -30,7 +30,7 @@ use Rattle.steps.specs.Messages.{Message, rs232c, kjw, tcp, udp, names}
 use Rattle.steps.specs.Addressing.{addressed}
 use Rattle.steps.specs.Step.{turn, panelAt, step}
 use Rattle.steps.specs.Run.{run}
-use Rattle.steps.proofs.Turns.{either, left}
+use Rattle.steps.proofs.Turns.{either, unmeant}
 
 -- what was heard is an order that sets name j
 abbrev pub ordersIt : Heard → ℕ → Bool
@@ -145,7 +145,7 @@ module _ {A : Type 0} (f : Panel → A) (sets : Message → Bool) (s : (b : Disp
     where
       go : (x : Bool) → addressed (names b) m i ≡ x → (x && sets m) ≡ false → f (panelAt i (step b m .box)) ≡ f (panelAt i b)
       go true e n = s b m i n
-      go false e n = ap f (left b m i e)
+      go false e n = ap f (unmeant b m i e)
 
   -- what stays at each message that does not set it stays over any run in which none that is addressed to the panel does
   run-stays : (ms : List Message) (b : DisplayBox) (i : ℕ) → spared sets i b ms ≡ true → f (panelAt i (run b ms)) ≡ f (panelAt i b)

@@ -28,7 +28,7 @@ pub record Reaches (b : DisplayBox) (m : Message) (i : ℕ) : Type 0 where
   pub passes : door (names b) m ≡ Done
   pub meant : addressed (names b) m i ≡ true
 
--- "1 reply area under 512 bytes": with a link, such a message has room for its reply
+-- 1: "reply area under 512 bytes": with a link, such a message has room for its reply
 pub has-room : {b : DisplayBox} {m : Message} {i l : ℕ} {area : List ℕ} → Lends l area m → Reaches b m i → 512 ≤ length area
 has-room {b} k r = door-passed (names b) k (r .passes) .room
 
@@ -95,8 +95,8 @@ pub either : (P : Panel → Type 0) (b : DisplayBox) (m : Message) (i : ℕ) →
 either P b m i p q = at-place P b m i p (λ r. q)
 
 -- a message that is not addressed to place i leaves its panel as it is
-pub left : (b : DisplayBox) (m : Message) (i : ℕ) → addressed (names b) m i ≡ false → panelAt i (step b m .box) ≡ panelAt i b
-left b m i n = at-place (λ (p : Panel). p ≡ panelAt i b) b m i refl (λ r. absurd (false-true (sym n ∙ r .meant)))
+pub unmeant : (b : DisplayBox) (m : Message) (i : ℕ) → addressed (names b) m i ≡ false → panelAt i (step b m .box) ≡ panelAt i b
+unmeant b m i n = at-place (λ (p : Panel). p ≡ panelAt i b) b m i refl (λ r. absurd (false-true (sym n ∙ r .meant)))
 
 -- the panel that a message comes to takes its turn
 pub takes : {b : DisplayBox} {m : Message} {i : ℕ} → Reaches b m i → panelAt i (step b m .box) ≡ turn m (panelAt i b) .after

@@ -37,7 +37,7 @@ messageAnswers = 0 ∷ 1 ∷ 2 ∷ 3 ∷ 4 ∷ 5 ∷ 6 ∷ []
 
 -- ---- checks 1 and 2, and 3 or 4 where nobody is addressed, from the names and the message alone; Done where they are passed
 
--- "1 reply area under 512 bytes", "2 no panel with that link number, or it is of the other family"
+-- 1: "reply area under 512 bytes"; 2: "no panel with that link number, or it is of the other family"
 abbrev pub ifOpen : List ℕ → Bool → Answer → Answer
 ifOpen area fits rest = cond (ltb (length area) 512) AreaTooSmall (cond fits rest NoSuchPanel)
 

@@ -129,7 +129,7 @@ pub get-back : (k : ℕ) → k < nameCount → readData (ascii "STATget " ++ nam
 unfolding isGet asksBack readData readGet namedBy
 get-back k h = is-get k _ (below nameCount asksBack tt k h)
 
--- "no name, with what parts it from its value, begins another"
+-- no name, with what parts it from its value, begins another
 apart : ℕ → ℕ → Bool
 apart k j = eqb j k || not (begins (leadOf j) (leadOf k))
 

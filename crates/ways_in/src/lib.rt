@@ -212,7 +212,7 @@ fn obey_all(m: &[u8], o: Order, ps: [Panel; 8], n: usize) -> [Panel; 8]
     qs
 }
 
-// A packet by UDP: "each addressed panel" obeys, and there is no reply.
+// A packet by UDP: every panel that is called obeys, and there is no reply.
 fn take_udp(b: DisplayBox, m: &[u8]) -> Outcome
     ensures { λ r. ⌜ Steps b (messages.udp (now (m .entry))) r [] ⌝ }
 {

@@ -6,26 +6,26 @@ use lib.ListN.{length, getD, drop, length-take, length-drop}
 use lib.Seq.{getD-drop, getD-take}
 use borrow.Author.Needs.{needs}
 use native.Mathlib.Omega.{arith}
-use Rattle.rs232c_asks.specs.Asks.{dataOf, words, valuesOf}
+use Rattle.rs232c_asks.specs.Asks.{dataOf, valuesIn, valuesOf}
 use Rattle.rs232c_levels.proofs.value_at.Statement.{statement}
 use Rattle.rs232c_levels.proofs.value_at.Tie as tie
 
-word-at : (l : List ℕ) (j : ℕ) → 2 * j + 1 < length l → getD (words l) j 0 ≡ getD l (2 * j) 0 + 256 * getD l (2 * j + 1) 0
-word-at [] j h = absurd (omega arith)
-word-at (x ∷ []) j h = absurd (omega arith)
-word-at (x ∷ y ∷ l) zero h = refl
-word-at (x ∷ y ∷ l) (suc j) h =
+value-in : (l : List ℕ) (j : ℕ) → 2 * j + 1 < length l → getD (valuesIn l) j 0 ≡ getD l (2 * j) 0 + 256 * getD l (2 * j + 1) 0
+value-in [] j h = absurd (omega arith)
+value-in (x ∷ []) j h = absurd (omega arith)
+value-in (x ∷ y ∷ l) zero h = refl
+value-in (x ∷ y ∷ l) (suc j) h =
     let a : 2 * suc j ≡ suc (suc (2 * j)) = omega arith in
     let b : 2 * suc j + 1 ≡ suc (suc (2 * j + 1)) = omega arith in
     let p : getD (x ∷ y ∷ l) (2 * suc j) 0 ≡ getD l (2 * j) 0 = rw a in
     let q : getD (x ∷ y ∷ l) (2 * suc j + 1) 0 ≡ getD l (2 * j + 1) 0 = rw b in
-    omega (arith, p, q, word-at l j (omega arith))
+    omega (arith, p, q, value-in l j (omega arith))
 
-no-word : (l : List ℕ) (j : ℕ) → length l ≤ 2 * j + 1 → getD (words l) j 0 ≡ 0
-no-word [] j h = refl
-no-word (x ∷ []) j h = refl
-no-word (x ∷ y ∷ l) zero h = absurd (omega arith)
-no-word (x ∷ y ∷ l) (suc j) h = no-word l j (omega arith)
+none-in : (l : List ℕ) (j : ℕ) → length l ≤ 2 * j + 1 → getD (valuesIn l) j 0 ≡ 0
+none-in [] j h = refl
+none-in (x ∷ []) j h = refl
+none-in (x ∷ y ∷ l) zero h = absurd (omega arith)
+none-in (x ∷ y ∷ l) (suc j) h = none-in l j (omega arith)
 
 -- the bytes behind the mask are the frame's from place 6 on, up to the checksum
 behind-mask : (m : List ℕ) (i : ℕ) → i + 7 < length m → getD (drop 1 (dataOf m)) i 0 ≡ getD m (6 + i) 0
@@ -38,11 +38,11 @@ value-is m j h =
     let a : 6 + (2 * j + 1) ≡ 7 + 2 * j = omega arith in
     let p : getD (drop 1 (dataOf m)) (2 * j) 0 ≡ getD m (6 + 2 * j) 0 = behind-mask m (2 * j) (omega arith) in
     let q : getD (drop 1 (dataOf m)) (2 * j + 1) 0 ≡ getD m (7 + 2 * j) 0 = behind-mask m (2 * j + 1) (omega arith) ∙ ap (λ (k : ℕ). getD m k 0) a in
-    let w = word-at (drop 1 (dataOf m)) j (simp (length-drop, length-take, length-drop) (omega arith)) in
+    let w = value-in (drop 1 (dataOf m)) j (simp (length-drop, length-take, length-drop) (omega arith)) in
     omega (arith, p, q, w)
 
 no-value : (m : List ℕ) (j : ℕ) → length m < 9 + 2 * j → getD (valuesOf m) j 0 ≡ 0
-no-value m j h = no-word (drop 1 (dataOf m)) j (simp (length-drop, length-take, length-drop) (omega arith))
+no-value m j h = none-in (drop 1 (dataOf m)) j (simp (length-drop, length-take, length-drop) (omega arith))
 
 mul-if1 : tie.Need-mul-if1
 mul-if1 c = search needs

@@ -17,13 +17,13 @@ returns-2 : tie.Need-returns-2
 unfolding writeVerdict
 returns-2 c = sym (rw (le-ltb _ _ (c .before .before .if1 .left), ← c .before .is-sized .ensures, not-true (c .before .is-sized .result) (c .if2 .taken)))
 
-judge-requires : tie.Need-judge-requires
-judge-requires c κs = search needs
+verdict-of-requires : tie.Need-verdict-of-requires
+verdict-of-requires c κs = search needs
 
 returns-3 : tie.Need-returns-3
 unfolding writeVerdict
-returns-3 c = sym (rw (le-ltb _ _ (c .before .before .before .if1 .left), ← c .before .before .is-sized .ensures, not-false (c .before .before .is-sized .result) (c .before .if2 .left)) (sym (c .judge .ensures)))
+returns-3 c = sym (rw (le-ltb _ _ (c .before .before .before .if1 .left), ← c .before .before .is-sized .ensures, not-false (c .before .before .is-sized .result) (c .before .if2 .left)) (sym (c .verdict-of .ensures)))
 
 pub write-answer-spec : {M : Type 1} → statement M
 write-answer-spec =
-    tie.close (tie.spec returns is-sized-requires returns-2 judge-requires returns-3)
+    tie.close (tie.spec returns is-sized-requires returns-2 verdict-of-requires returns-3)

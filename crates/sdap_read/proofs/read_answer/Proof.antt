@@ -34,47 +34,47 @@ number2-at-requires c κs = search needs
 number2-at-requires-2 : tie.Need-number2-at-requires-2
 number2-at-requires-2 c κs = search needs
 
-shared-slice-read-judge : tie.Need-shared-slice-read-judge
-shared-slice-read-judge c = search needs
+shared-slice-read-verdict-of : tie.Need-shared-slice-read-verdict-of
+shared-slice-read-verdict-of c = search needs
 
-sub-judge : tie.Need-sub-judge
-sub-judge c = search needs
+sub-verdict-of : tie.Need-sub-verdict-of
+sub-verdict-of c = search needs
 
-part-judge-start : tie.Need-part-judge-start
-part-judge-start c = search needs
+part-verdict-of-start : tie.Need-part-verdict-of-start
+part-verdict-of-start c = search needs
 
-part-judge-end : tie.Need-part-judge-end
-part-judge-end c = search needs
+part-verdict-of-end : tie.Need-part-verdict-of-end
+part-verdict-of-end c = search needs
 
-sub-judge-2 : tie.Need-sub-judge-2
-sub-judge-2 c = search needs
+sub-verdict-of-2 : tie.Need-sub-verdict-of-2
+sub-verdict-of-2 c = search needs
 
-part-judge-start-2 : tie.Need-part-judge-start-2
-part-judge-start-2 c = search needs
+part-verdict-of-start-2 : tie.Need-part-verdict-of-start-2
+part-verdict-of-start-2 c = search needs
 
-part-judge-end-2 : tie.Need-part-judge-end-2
-part-judge-end-2 c = search needs
+part-verdict-of-end-2 : tie.Need-part-verdict-of-end-2
+part-verdict-of-end-2 c = search needs
 
-sub-judge-3 : tie.Need-sub-judge-3
-sub-judge-3 c = search needs
+sub-verdict-of-3 : tie.Need-sub-verdict-of-3
+sub-verdict-of-3 c = search needs
 
-part-judge-start-3 : tie.Need-part-judge-start-3
-part-judge-start-3 c = search needs
+part-verdict-of-start-3 : tie.Need-part-verdict-of-start-3
+part-verdict-of-start-3 c = search needs
 
-part-judge-end-3 : tie.Need-part-judge-end-3
-part-judge-end-3 c = search needs
+part-verdict-of-end-3 : tie.Need-part-verdict-of-end-3
+part-verdict-of-end-3 c = search needs
 
-sub-judge-4 : tie.Need-sub-judge-4
-sub-judge-4 c = search needs
+sub-verdict-of-4 : tie.Need-sub-verdict-of-4
+sub-verdict-of-4 c = search needs
 
-part-judge-start-4 : tie.Need-part-judge-start-4
-part-judge-start-4 c = search needs
+part-verdict-of-start-4 : tie.Need-part-verdict-of-start-4
+part-verdict-of-start-4 c = search needs
 
-part-judge-end-4 : tie.Need-part-judge-end-4
-part-judge-end-4 c = search needs
+part-verdict-of-end-4 : tie.Need-part-verdict-of-end-4
+part-verdict-of-end-4 c = search needs
 
-judge-requires : tie.Need-judge-requires
-judge-requires c κs = search needs
+verdict-of-requires : tie.Need-verdict-of-requires
+verdict-of-requires c κs = search needs
 
 returns-3 : tie.Need-returns-3
 unfolding readAnswer
@@ -83,7 +83,7 @@ returns-3 c =
     let f = n .before .before in
     let s = f .before .before .before .args .s .now in
     rw (eq-eqb _ _ (f .before .if1 .left), ← f .is-front .ensures, not-false (f .is-front .result) (n .before .if2 .left))
-    (agreed s (c .judge .result) (n .number2-at .result) (c .before .before .before .before .before .before .number2-at2 .result) (n .number2-at .ensures) (c .before .before .before .before .before .before .number2-at2 .ensures) (c .judge .ensures))
+    (agreed s (c .verdict-of .result) (n .number2-at .result) (c .before .before .before .before .before .before .number2-at2 .result) (n .number2-at .ensures) (c .before .before .before .before .before .before .number2-at2 .ensures) (c .verdict-of .ensures))
 
 pub read-answer-spec : {M : Type 1} → statement M
 read-answer-spec =
@@ -94,18 +94,18 @@ read-answer-spec =
     returns-2
     number2-at-requires
     number2-at-requires-2
-    shared-slice-read-judge
-    sub-judge
-    part-judge-start
-    part-judge-end
-    sub-judge-2
-    part-judge-start-2
-    part-judge-end-2
-    sub-judge-3
-    part-judge-start-3
-    part-judge-end-3
-    sub-judge-4
-    part-judge-start-4
-    part-judge-end-4
-    judge-requires
+    shared-slice-read-verdict-of
+    sub-verdict-of
+    part-verdict-of-start
+    part-verdict-of-end
+    sub-verdict-of-2
+    part-verdict-of-start-2
+    part-verdict-of-end-2
+    sub-verdict-of-3
+    part-verdict-of-start-3
+    part-verdict-of-end-3
+    sub-verdict-of-4
+    part-verdict-of-start-4
+    part-verdict-of-end-4
+    verdict-of-requires
     returns-3)

@@ -1,4 +1,4 @@
--- `refused` says "not done" of an answer that is not 0.
+-- `refused` is given an answer that is not 0, so it was not done.
 use mathlib.Core.Path.{sym, ap}
 use mathlib.Core.Bool.{Bool}
 use Rattle.terms.specs.declared.Answer.{Answer}
