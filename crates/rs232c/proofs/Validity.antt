@@ -6,7 +6,7 @@ use Prim.Native.Nat.{ℕ, zero, suc, _-_, _%_, _≤_}
 use native.Mathlib.Omega.{arith}
 use lib.Dec.{eqb, ltb, leb, lit≤}
 use lib.IntN.{pos, negsuc}
-use lib.ListN.{length, getD, set, replicate, take, drop}
+use lib.ListN.{getD, set, replicate, take, drop}
 use borrow.Author.Tests.{le-leb, ltb-true, ltb-false}
 use Rattle.laws.specs.Lists.{every, listed, within}
 use Rattle.laws.proofs.Conditions.{and-first, and-second, and-both}

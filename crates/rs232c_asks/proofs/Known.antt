@@ -11,7 +11,6 @@ use borrow.Author.Tests.{eqb-true}
 use Rattle.laws.specs.Lists.{listed}
 use Rattle.laws.proofs.Conditions.{and-first, and-second, choose}
 use Rattle.terms.specs.Answers.{numberOf}
-use Rattle.terms.specs.declared.Answer.the-variants.{WrongLength, NotForUs}
 use Rattle.rs232c_asks.specs.Asks.{sourceOf, codeOf, dataOf, isForeign, isBroken, first, second, configCommand, selectCommand, levelsCommand, senseCommand, remoteCommand, commandOf, heardOf, valuesIn, valuesOf}
 use Rattle.rs232c_asks.specs.Commands.{configGood, selectGood}
 use Rattle.rs232c_asks.specs.declared.Order.{Order}
