@@ -1,0 +1,9 @@
+pub mod Behind
+pub mod Determined
+pub mod Further
+pub mod Going
+pub mod Kept
+pub mod Lines
+pub mod Moves
+pub mod Steps
+pub mod Whole
