@@ -1,13 +1,13 @@
 -- Each promise allows one outcome: how far a piece was taken is one number, and box, text and store are equations about it.
 use Prim.Native.Nat.{ℕ}
-use mathlib.Core.Path.{_≡_, refl, sym, ap, _∙_}
+use mathlib.Core.Path.{_≡_, sym, ap, _∙_}
 use mathlib.Core.List.{List}
 use lib.ListN.{length, take}
 use Rattle.laws.specs.Bytes.{sent}
 use Rattle.panels.specs.Records.{noBox}
 use Rattle.panels.specs.declared.DisplayBox.{DisplayBox}
 use Rattle.script_run.specs.declared.Progress.{Progress}
-use Rattle.script_run.specs.Pieces.{SoFar, before, further, Store, stored, Runs}
+use Rattle.script_run.specs.Pieces.{SoFar, atCall, further, Store, stored, Runs}
 
 pub start-one : (r r′ : DisplayBox) → r ≡ noBox → r′ ≡ noBox → r ≡ r′
 start-one r r′ p q = p ∙ sym q
@@ -26,7 +26,7 @@ pub run-piece-one : (b : DisplayBox) (store : List ℕ) (kept : ℕ) (piece area
 run-piece-one b store kept piece area r r′ x x′ y y′ p q =
     let next = p .next-is ∙ sym (q .next-is) in
     let taken : take (r .next) piece ≡ take (r′ .next) piece = ap (λ (n : ℕ). take n piece) next in
-    let so : further (before b store kept) (take (r .next) piece) ≡ further (before b store kept) (take (r′ .next) piece) = ap (further (before b store kept)) taken in
+    let so : further (atCall b store kept) (take (r .next) piece) ≡ further (atCall b store kept) (take (r′ .next) piece) = ap (further (atCall b store kept)) taken in
     let k = p .store-is ∙ ap (stored (record { bytes = store; kept = length (take kept store) })) taken ∙ sym (q .store-is) in
     record {
       held-same = p .box-is ∙ ap (λ (s : SoFar). s .box) so ∙ sym (q .box-is);

@@ -1,12 +1,12 @@
 -- Byte by byte: what comes in two parts is what comes in one; and of two scripts so far, whose begun lines differ only behind 4,097 bytes, the same comes.
-use Prim.Native.Nat.{ℕ, suc, _+_, _≤_, _<_}
-use mathlib.Core.Path.{_≡_, refl, sym, ap, subst, _∙_}
+use Prim.Native.Nat.{ℕ, _+_, _≤_, _<_}
+use mathlib.Core.Path.{_≡_, refl, sym, ap, _∙_}
 use mathlib.Core.Bool.{Bool, true, false, cond}
 use mathlib.Core.List.{List, [], _∷_, _++_, append-assoc}
 use native.Mathlib.Omega.{arith}
 use native.Mathlib.Numerals.{add-one}
 use lib.Dec.{eqb, leb}
-use lib.ListN.{length, take, set, length-append, length-take}
+use lib.ListN.{length, take, length-append, length-take}
 use lib.Seq.{take-all, take-at, take-append-le, take-suc-set, length-take-le}
 use borrow.Author.Tests.{leb-true, leb-false}
 use Rattle.panels.specs.declared.DisplayBox.{DisplayBox}
@@ -14,7 +14,7 @@ use Rattle.script_answers.specs.Answers.{Effect}
 use Rattle.script_text.specs.Puts.{written, behind, Puts}
 use Rattle.script_text.proofs.Puts.{puts-one, puts-byte, puts-outside, puts-length}
 use Rattle.script.specs.Answers.{answered}
-use Rattle.script_run.specs.Pieces.{SoFar, before, byteMore, further, Store, byteStored, stored}
+use Rattle.script_run.specs.Pieces.{SoFar, atCall, byteMore, further, Store, byteStored, stored}
 use Rattle.script_run.proofs.Kept.{alike-answered}
 
 pub further-append : (s : SoFar) (u t : List ℕ) → further s (u ++ t) ≡ further (further s u) t
@@ -125,7 +125,7 @@ take-taken n s =
     (λ h. let all : take n s ≡ s = take-all n s (omega arith) in rw all (take-all (length s) s (omega arith)))
 
 -- before a call the store holds the begun line itself
-pub holds-first : (b : DisplayBox) (store : List ℕ) (kept : ℕ) → length store ≡ 4097 → Holds (record { bytes = store; kept = length (take kept store) }) (before b store kept)
+pub holds-first : (b : DisplayBox) (store : List ℕ) (kept : ℕ) → length store ≡ 4097 → Holds (record { bytes = store; kept = length (take kept store) }) (atCall b store kept)
 holds-first b store kept l = record {
   size = l;
   front = take-taken kept store ∙ sym (take-all 4097 (take kept store) (simp length-take (omega arith)));

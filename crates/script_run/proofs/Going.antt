@@ -1,38 +1,36 @@
 -- Between two lines of a piece: box, text and store are those of the bytes that were taken, and one line more keeps it so.
-use Prim.Native.Nat.{ℕ, suc, _+_, _-_, _≤_, _<_}
-use mathlib.Core.Path.{_≡_, refl, sym, ap, subst, _∙_}
-use mathlib.Core.Bool.{Bool, true, false, cond}
-use mathlib.Core.List.{List, [], _∷_, _++_, append-nil}
+use Prim.Native.Nat.{ℕ, _+_, _-_, _≤_, _<_}
+use mathlib.Core.Path.{_≡_, refl, sym, ap, _∙_}
+use mathlib.Core.List.{List, _++_}
 use native.Mathlib.Omega.{arith}
-use native.Mathlib.Nat.{zero-add, add-zero}
+use native.Mathlib.Nat.{zero-add}
 use lib.ListN.{length, take, drop, length-append, length-take, length-drop}
 use lib.Seq.{take-add, drop-drop}
-use Rattle.laws.specs.Bytes.{Sent}
 use Rattle.laws.proofs.Areas.{over-front}
 use Rattle.panels.specs.declared.DisplayBox.{DisplayBox}
 use Rattle.script_text.specs.Puts.{Puts}
 use Rattle.script_text.proofs.Puts.{puts-none, puts-then, puts-as, puts-whole, puts-length}
 use Rattle.script_room.specs.Room.{room}
 use Rattle.script_run.specs.declared.Progress.{Progress}
-use Rattle.script_run.specs.Pieces.{SoFar, before, further, reach, Store, stored, Runs}
+use Rattle.script_run.specs.Pieces.{SoFar, atCall, further, reach, Store, stored, Runs}
 use Rattle.script_run.proofs.Moves.{reach-end, reach-full}
 use Rattle.script_run.proofs.Further.{further-append, stored-append}
 
 module _ (b : DisplayBox) (store₀ : List ℕ) (kept₀ : ℕ) (piece area₀ : List ℕ) where
   -- the script after so many bytes of the piece, and the store
   abbrev pub soFar : ℕ → SoFar
-  soFar n = further (before b store₀ kept₀) (take n piece)
+  soFar n = further (atCall b store₀ kept₀) (take n piece)
 
   abbrev pub storeNow : ℕ → Store
   storeNow n = stored (record { bytes = store₀; kept = length (take kept₀ store₀) }) (take n piece)
 
   pub record Going (p : Progress) (store area : List ℕ) : Type 0 where
     pub inside : p .next ≤ length piece
-    pub left : reach (length area₀) (before b store₀ kept₀) piece ≡ p .next + reach (length area₀) (soFar (p .next)) (drop (p .next) piece)
+    pub left : reach (length area₀) (atCall b store₀ kept₀) piece ≡ p .next + reach (length area₀) (soFar (p .next)) (drop (p .next) piece)
     pub box-is : p .held ≡ soFar (p .next) .box
     pub text-is : Puts (soFar (p .next) .text) area₀ 0 area (p .len)
     pub size-is : p .len ≡ length (soFar (p .next) .text)
-    pub fits : p .len ≤ length area₀
+    pub fits : p .len ≤ length area
     pub full : p .kept ≤ length store
     pub store-is : record { bytes = store; kept = p .kept } ≡ storeNow (p .next)
 
@@ -40,7 +38,7 @@ module _ (b : DisplayBox) (store₀ : List ℕ) (kept₀ : ℕ) (piece area₀ :
   unfolding further stored
   going-first kept e = record {
     inside = omega arith;
-    left = sym (zero-add (reach (length area₀) (before b store₀ kept₀) piece));
+    left = sym (zero-add (reach (length area₀) (atCall b store₀ kept₀) piece));
     box-is = refl;
     text-is = puts-none area₀ 0;
     size-is = refl;
@@ -56,18 +54,19 @@ module _ (b : DisplayBox) (store₀ : List ℕ) (kept₀ : ℕ) (piece area₀ :
     bytes-on = ap (λ (n : ℕ). take n piece) next ∙ take-add (p .next) (length u) piece ∙ ap (λ (v : List ℕ). take (p .next) piece ++ v) front
 
     so-far-on : soFar (r .next) ≡ further (soFar (p .next)) u
-    so-far-on = ap (further (before b store₀ kept₀)) bytes-on ∙ further-append (before b store₀ kept₀) (take (p .next) piece) u
+    so-far-on = ap (further (atCall b store₀ kept₀)) bytes-on ∙ further-append (atCall b store₀ kept₀) (take (p .next) piece) u
 
     pub going-on : r .next ≤ length piece → r .kept ≤ length store′
         → reach (length area₀) (soFar (p .next)) (drop (p .next) piece) ≡ length u + reach (length area₀) (further (soFar (p .next)) u) (drop (length u) (drop (p .next) piece))
         → r .held ≡ further (soFar (p .next)) u .box
         → further (soFar (p .next)) u .text ≡ soFar (p .next) .text ++ w
-        → p .len + length w ≤ length area₀ → Puts w area (p .len) area′ (r .len)
+        → p .len + length w ≤ length area → Puts w area (p .len) area′ (r .len)
         → record { bytes = store′; kept = r .kept } ≡ stored (record { bytes = store; kept = p .kept }) u
         → Going r store′ area′
     going-on inside full left box text room put kept =
         let texts : soFar (p .next) .text ++ w ≡ soFar (r .next) .text = sym (ap (λ (s : SoFar). s .text) so-far-on ∙ text) in
-        let len = puts-whole put (let l = puts-length (g .text-is) in omega arith) .1 in
+        let len = puts-whole put room .1 in
+        let same = puts-length put in
         let size : length (soFar (r .next) .text) ≡ p .len + length w = sym (ap length texts) ∙ length-append (soFar (p .next) .text) w ∙ (let q = g .size-is in omega arith) in
         let rest : drop (length u) (drop (p .next) piece) ≡ drop (r .next) piece = drop-drop (length u) (p .next) piece ∙ ap (λ (n : ℕ). drop n piece) (sym next) in
         let more : reach (length area₀) (soFar (p .next)) (drop (p .next) piece) ≡ length u + reach (length area₀) (soFar (r .next)) (drop (r .next) piece) = left ∙ ap (λ (v : List ℕ). length u + reach (length area₀) (further (soFar (p .next)) u) v) rest ∙ ap (λ (s : SoFar). length u + reach (length area₀) s (drop (r .next) piece)) (sym so-far-on) in
@@ -77,7 +76,7 @@ module _ (b : DisplayBox) (store₀ : List ℕ) (kept₀ : ℕ) (piece area₀ :
           box-is = box ∙ ap (λ (s : SoFar). s .box) (sym so-far-on);
           text-is = puts-as texts (puts-then (g .text-is) put);
           size-is = omega (arith, len, size);
-          fits = omega (arith, len, room);
+          fits = omega (arith, len, room, same);
           full = full;
           store-is = kept ∙ ap (λ (k : Store). stored k u) (g .store-is) ∙ sym (ap (stored (record { bytes = store₀; kept = length (take kept₀ store₀) })) bytes-on ∙ stored-append (record { bytes = store₀; kept = length (take kept₀ store₀) }) (take (p .next) piece) u);
         }
@@ -85,7 +84,7 @@ module _ (b : DisplayBox) (store₀ : List ℕ) (kept₀ : ℕ) (piece area₀ :
   -- nothing more is taken: the call is done
   done : (p : Progress) (store area : List ℕ) → Going p store area → reach (length area₀) (soFar (p .next)) (drop (p .next) piece) ≡ 0 → Runs b store₀ kept₀ piece area₀ p store area
   done p store area g z =
-      let whole = puts-whole (g .text-is) (let q = g .size-is in let f = g .fits in omega (arith, q, f)) in
+      let whole = puts-whole (g .text-is) (let q = g .size-is in let f = g .fits in let l = puts-length (g .text-is) in omega (arith, q, f, l)) in
       record {
         next-is = let q = g .left in omega (arith, q, z);
         box-is = g .box-is;

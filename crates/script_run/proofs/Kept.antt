@@ -12,7 +12,6 @@ use Rattle.panels.specs.declared.DisplayBox.{DisplayBox}
 use Rattle.script_lines.specs.Orders.{isPassedOver, orderOf}
 use Rattle.script_lines.specs.declared.Order.{Order}
 use Rattle.script_lines.specs.declared.Order.the-variants.{Passed, Unread}
-use Rattle.script_answers.specs.Answers.{Effect}
 use Rattle.script.specs.Answers.{ordered, answered}
 
 -- what a line that is too long is: its first byte says it

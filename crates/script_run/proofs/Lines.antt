@@ -1,16 +1,15 @@
 -- A line byte by byte: its bytes are begun, one behind the other, and put into the store, and 0Ah answers it.
-use Prim.Native.Nat.{ℕ, suc, _+_, _≤_, _<_}
-use mathlib.Core.Path.{_≡_, refl, sym, ap, subst, _∙_}
+use Prim.Native.Nat.{ℕ, suc, _+_, _≤_}
+use mathlib.Core.Path.{_≡_, refl, sym, ap, _∙_}
 use mathlib.Core.Bool.{Bool, true, false, cond}
 use mathlib.Core.List.{List, [], _∷_, _++_, append-assoc, append-nil}
 use native.Mathlib.Omega.{arith}
 use native.Mathlib.Nat.{zero-add, suc-add}
-use lib.Dec.{eqb, leb}
-use lib.ListN.{length, take, drop}
+use lib.Dec.{eqb}
+use lib.ListN.{length, drop}
 use borrow.Author.Tests.{le-leb}
-use Rattle.script_words.specs.Words.{lineOf}
-use Rattle.script_words.specs.Words.{before as beforeFirst}
-use Rattle.script_text.specs.Puts.{written, behind, Puts}
+use Rattle.script_words.specs.Words.{before, lineOf}
+use Rattle.script_text.specs.Puts.{Puts}
 use Rattle.script_text.proofs.Puts.{puts-none, puts-then, puts-one}
 use Rattle.script_room.specs.Room.{room}
 use Rattle.script.specs.Answers.{answered}
@@ -22,7 +21,7 @@ abbrev pub IsLine : List ℕ → Type 0
 IsLine l = lineOf l ≡ l
 
 pub first-byte : (x : ℕ) (l : List ℕ) → IsLine (x ∷ l) → (eqb x 0x0a ≡ false) × IsLine l
-unfolding beforeFirst
+unfolding before
 first-byte x l = go (eqb x 0x0a) refl
   where
     go : (c : Bool) → eqb x 0x0a ≡ c → cond c [] (x ∷ lineOf l) ≡ x ∷ l → (eqb x 0x0a ≡ false) × IsLine l
@@ -30,7 +29,7 @@ first-byte x l = go (eqb x 0x0a) refl
     go false e q = (e, ap (drop 1) q)
 
 pub line-is : (s : List ℕ) → IsLine (lineOf s)
-unfolding beforeFirst
+unfolding before
 line-is [] = refl
 line-is (x ∷ s) = go (eqb x 0x0a) refl (line-is s)
   where

@@ -1,6 +1,6 @@
 -- How far a call goes: no further than the piece, and over at least one byte where there is one, and room.
 use Prim.Native.Nat.{ℕ, suc, _+_, _≤_, _<_}
-use mathlib.Core.Path.{_≡_, refl, sym, ap, _∙_}
+use mathlib.Core.Path.{_≡_, refl, ap, _∙_}
 use mathlib.Core.Bool.{Bool, true, false, cond}
 use mathlib.Core.List.{List, [], _∷_}
 use native.Mathlib.Omega.{arith}
@@ -10,7 +10,7 @@ use borrow.Author.Tests.{le-leb, lt-leb}
 use Rattle.panels.specs.declared.DisplayBox.{DisplayBox}
 use Rattle.script_room.specs.Room.{room}
 use Rattle.script_run.specs.declared.Progress.{Progress}
-use Rattle.script_run.specs.Pieces.{SoFar, before, byteMore, further, reach, Runs}
+use Rattle.script_run.specs.Pieces.{SoFar, atCall, byteMore, further, reach, Runs}
 
 reach-inside : (size : ℕ) (s : SoFar) (bytes : List ℕ) → reach size s bytes ≤ length bytes
 unfolding reach
@@ -39,14 +39,14 @@ reach-some size s (x ∷ bytes) h i = rw (le-leb (length (s .text) + room) size 
 
 module _ {b : DisplayBox} {store piece area store′ area′ : List ℕ} {kept : ℕ} {r : Progress} (q : Runs b store kept piece area r store′ area′) where
   pub next-inside : r .next ≤ length piece
-  next-inside = let e = q .next-is in let h = reach-inside (length area) (before b store kept) piece in omega (arith, e, h)
+  next-inside = let e = q .next-is in let h = reach-inside (length area) (atCall b store kept) piece in omega (arith, e, h)
 
   pub moves-on : 0 < length piece → room ≤ length area → 0 < r .next
-  moves-on h i = let e = q .next-is in let s = reach-some (length area) (before b store kept) piece (omega (arith, i)) h in omega (arith, e, s)
+  moves-on h i = let e = q .next-is in let s = reach-some (length area) (atCall b store kept) piece (omega (arith, i)) h in omega (arith, e, s)
 
   pub text-inside : r .len ≤ length area′
   text-inside =
-      let t = further (before b store kept) (take (r .next) piece) .text in
+      let t = further (atCall b store kept) (take (r .next) piece) .text in
       let n = ap length (q .text-is .area-is) ∙ length-append t (drop (length t) area) in
       let l = q .text-is .length-is in
       omega (arith, n, l)

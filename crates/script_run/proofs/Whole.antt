@@ -1,7 +1,7 @@
 -- A whole script: byte by byte it does what its lines do one after the other, and however it is cut into pieces, calls do the same.
-use Prim.Native.Nat.{ℕ, suc, _+_, _≤_, _<_}
+use Prim.Native.Nat.{ℕ, _+_}
 use mathlib.Core.Path.{_≡_, refl, sym, ap, subst, _∙_}
-use mathlib.Core.Bool.{Bool, true, false, cond}
+use mathlib.Core.Bool.{Bool, true, false}
 use mathlib.Core.List.{List, [], _∷_, _++_, append-nil, append-assoc}
 use native.Mathlib.Omega.{arith}
 use lib.Dec.{eqb}
@@ -10,23 +10,22 @@ use lib.Seq.{take-at, take-take}
 use borrow.Author.Tests.{eqb-true}
 use Rattle.panels.specs.Records.{noBox}
 use Rattle.panels.specs.declared.DisplayBox.{DisplayBox}
-use Rattle.script_words.specs.Words.{lineOf, toFirst}
-use Rattle.script_words.specs.Words.{before as beforeFirst}
+use Rattle.script_words.specs.Words.{before, lineOf, toFirst}
 use Rattle.script_lines.specs.Orders.{isPassedOver, orderOf}
 use Rattle.script_answers.specs.Answers.{Effect}
 use Rattle.script.specs.Answers.{ordered, answered}
 use Rattle.script_run.specs.declared.Progress.{Progress}
 use Rattle.script_run.specs.Scripts.{linesOf, inTurn, scriptDone}
-use Rattle.script_run.specs.Pieces.{SoFar, before, byteMore, further, Store, stored, Runs}
-use Rattle.script_run.specs.Calls.{Calls, none, call}
-use Rattle.script_run.proofs.Further.{further-append, Alike, alike-further, Holds, take-taken, holds-further}
+use Rattle.script_run.specs.Pieces.{SoFar, atCall, further, Store, Runs}
+use Rattle.script_run.specs.Calls.{Calls, none, call, Reached}
+use Rattle.script_run.proofs.Further.{further-append, alike-further, Holds, take-taken, holds-further}
 use Rattle.script_run.proofs.Lines.{IsLine, first-byte, goesOn, ended, byte-on, end-byte}
 
 -- ---- lines
 
 -- a line that was cut: its first part has no 0Ah, and the rest is in what comes next
 line-cut : (a b : List ℕ) → IsLine a → lineOf (a ++ b) ≡ a ++ lineOf b
-unfolding beforeFirst
+unfolding before
 line-cut [] b h = refl
 line-cut (x ∷ a) b h = let (e, i) = first-byte x a h in rw e (ap (λ (t : List ℕ). x ∷ t) (line-cut a b i))
 
@@ -94,22 +93,22 @@ lines-begun s x script e r =
       text-is = ap (λ (q : SoFar). q .text) on ∙ r .text-is ∙ ap (λ (l : List ℕ). s .text ++ inTurn (s .box) (linesOf l) .text) a;
     }
 
-one-nothing : IsLine []
-unfolding beforeFirst
-one-nothing = refl
+empty-line : IsLine []
+unfolding before
+empty-line = refl
 
-one-byte : (x : ℕ) → eqb x 0x0a ≡ false → IsLine (x ∷ [])
-unfolding beforeFirst
-one-byte x e = rw e
+byte-line : (x : ℕ) → eqb x 0x0a ≡ false → IsLine (x ∷ [])
+unfolding before
+byte-line x e = rw e
 
 lines-further : (s : SoFar) (script : List ℕ) → IsLine (s .begun) → LinesOf s script
-unfolding beforeFirst
+unfolding before
 lines-further s [] h = lines-none s h
 lines-further s (x ∷ script) h = go (eqb x 0x0a) refl (λ (q : SoFar) (i : IsLine (q .begun)). lines-further q script i)
   where
     go : (c : Bool) → eqb x 0x0a ≡ c → ((q : SoFar) → IsLine (q .begun) → LinesOf q script) → LinesOf s (x ∷ script)
     go true e r = subst (λ (y : ℕ). LinesOf s (y ∷ script)) (sym (eqb-true x 0x0a e)) (lines-ended s script h (r (ended s) refl))
-    go false e r = lines-begun s x script e (r (goesOn s (x ∷ [])) (line-cut (s .begun) (x ∷ []) h ∙ ap (λ (t : List ℕ). s .begun ++ t) (one-byte x e)))
+    go false e r = lines-begun s x script e (r (goesOn s (x ∷ [])) (line-cut (s .begun) (x ∷ []) h ∙ ap (λ (t : List ℕ). s .begun ++ t) (byte-line x e)))
 
 -- ---- calls
 
@@ -128,8 +127,8 @@ left-call s {store} {text} {piece} {area} {store′} {area′} {b} {kept} {r} h 
     let u = take (r .next) piece in
     let front = h .holds .front in
     let begun : take 4097 (s .begun) ≡ take 4097 (take kept store) = sym (ap (take 4097) front ∙ take-take 4097 4097 (s .begun) (omega arith)) in
-    let alike = alike-further (s .text) s (before b store kept) u (record { box-same = sym (h .box-is); text-joined = sym (append-nil (s .text)); begun-alike = begun }) in
-    let t = further (before b store kept) u .text in
+    let alike = alike-further (s .text) s (atCall b store kept) u (record { box-same = sym (h .box-is); text-joined = sym (append-nil (s .text)); begun-alike = begun }) in
+    let t = further (atCall b store kept) u .text in
     let written : take (r .len) area′ ≡ t = ap (take (r .len)) (q .text-is .area-is) ∙ take-at t (drop (length t) area) (r .len) (sym (q .text-is .length-is)) in
     record {
       box-is = q .box-is ∙ sym (alike .box-same);
@@ -148,7 +147,7 @@ pub kept-order : {b : DisplayBox} {store text : List ℕ} {kept : ℕ} (script :
 unfolding scriptDone
 kept-order script c =
     let h = calls-left c in
-    let l = lines-further (fresh noBox) script one-nothing in
+    let l = lines-further (fresh noBox) script empty-line in
     (h .box-is ∙ l .box-is, h .text-is ∙ l .text-is)
 
 -- however a script is cut into pieces, and whatever room there is
@@ -157,3 +156,10 @@ cut-same c d =
     let h = calls-left c in
     let i = calls-left d in
     (h .box-is ∙ sym (i .box-is), h .text-is ∙ sym (i .text-is))
+
+-- a script starts, and a call goes on
+pub reached-first : {b : DisplayBox} {store : List ℕ} → b ≡ noBox → length store ≡ 4097 → Reached [] b store 0
+reached-first {b} {store} e l = subst (λ (x : DisplayBox). Reached [] x store 0) (sym e) (record { text = []; calls = none l })
+
+pub reached-on : {bytes store piece area store′ area′ : List ℕ} {b : DisplayBox} {kept : ℕ} {r : Progress} → Reached bytes b store kept → Runs b store kept piece area r store′ area′ → Reached (bytes ++ take (r .next) piece) (r .held) store′ (r .kept)
+reached-on {area′ = area′} {r = r} h q = record { text = h .text ++ take (r .len) area′; calls = call (h .calls) q }

@@ -3,6 +3,7 @@ use Prim.Native.Nat.{ℕ}
 use mathlib.Core.Path.{_≡_}
 use mathlib.Core.List.{List, [], _++_}
 use lib.ListN.{length, take}
+use Rattle.panels.specs.Records.{noBox}
 use Rattle.panels.specs.declared.DisplayBox.{DisplayBox}
 use Rattle.script_run.specs.Pieces.{Runs}
 use Rattle.script_run.specs.declared.Progress.{Progress}
@@ -12,3 +13,8 @@ pub data Calls (first : DisplayBox) : List ℕ → DisplayBox → List ℕ → �
   none : {store : List ℕ} → length store ≡ 4097 → Calls first [] first store 0 []
   call : {bytes store text piece area store′ area′ : List ℕ} {b : DisplayBox} {kept : ℕ} {r : Progress} → Calls first bytes b store kept text → Runs b store kept piece area r store′ area′
       → Calls first (bytes ++ take (r .next) piece) (r .held) store′ (r .kept) (text ++ take (r .len) area′)
+
+-- after these bytes of a script: what calls leave, of which the first had the box of no panels
+pub record Reached (bytes : List ℕ) (b : DisplayBox) (store : List ℕ) (kept : ℕ) : Type 0 where
+  pub text : List ℕ
+  pub calls : Calls noBox bytes b store kept text

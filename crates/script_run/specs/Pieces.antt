@@ -50,12 +50,12 @@ stored k [] = k
 stored k (x ∷ bytes) = stored (byteStored k x) bytes
 
 -- before a call: nothing is written yet, and the store's front is the line that has not ended
-abbrev pub before : DisplayBox → List ℕ → ℕ → SoFar
-before b store kept = record { box = b; text = []; begun = take kept store }
+abbrev pub atCall : DisplayBox → List ℕ → ℕ → SoFar
+atCall b store kept = record { box = b; text = []; begun = take kept store }
 
 -- the promise: how far the piece was taken, and for these bytes the box, the text at the front of the area, and the store
 pub record Runs (b : DisplayBox) (store : List ℕ) (kept : ℕ) (piece area : List ℕ) (r : Progress) (store′ area′ : List ℕ) : Type 0 where
-  pub next-is : r .next ≡ reach (length area) (before b store kept) piece
-  pub box-is : r .held ≡ further (before b store kept) (take (r .next) piece) .box
-  pub text-is : Sent (further (before b store kept) (take (r .next) piece) .text) (r .len) area area′
+  pub next-is : r .next ≡ reach (length area) (atCall b store kept) piece
+  pub box-is : r .held ≡ further (atCall b store kept) (take (r .next) piece) .box
+  pub text-is : Sent (further (atCall b store kept) (take (r .next) piece) .text) (r .len) area area′
   pub store-is : record { bytes = store′; kept = r .kept } ≡ stored (record { bytes = store; kept = length (take kept store) }) (take (r .next) piece)

@@ -1,17 +1,21 @@
--- `main` counts its turns down, and between two of them the store and the buffer are full to places inside them.
+-- `main` counts its turns down, and between two of them box, store and what is kept are those that calls on the input so far leave.
 use borrow.Author.Needs.{needs}
-use mathlib.Core.Path.{_≡_}
-use Prim.Native.Nat.{_≤_}
-use lib.ListN.{length}
+use native.Mathlib.Omega.{arith}
+use mathlib.Core.Path.{_≡_, sym}
+use mathlib.Core.List.{List, []}
+use Prim.Native.Nat.{ℕ}
+use lib.ListN.{length, length-replicate}
+use Rattle.script_run.specs.Calls.{Reached}
+use Rattle.script_run.proofs.Whole.{reached-first}
 use Rattle.replay.proofs.main.Statement.{statement}
 use Rattle.replay.proofs.main.Tie as tie
 
 abbrev Inv-loop : tie.InvT-loop
-Inv-loop piece₀ store₀ out₀ run₀ turns₀ piece store out run turns =
-    (run .kept ≤ 4097) × (run .full ≤ 65536) × (length piece ≡ 65536) × (length store ≡ 4097) × (length out ≡ 65536)
+Inv-loop piece₀ store₀ area₀ p₀ turns₀ t7 piece store area p turns =
+    ((bytes : List ℕ) × Reached bytes (p .held) store (p .kept)) × (length piece ≡ 65536) × (length area ≡ 65536)
 
 abbrev μ-loop : tie.MeasureT-loop
-μ-loop piece₀ store₀ out₀ run₀ turns₀ piece store out run turns = turns
+μ-loop piece₀ store₀ area₀ p₀ turns₀ t7 piece store area p turns = turns
 
 large-buffer-requires : tie.Need-large-buffer-requires Inv-loop μ-loop
 large-buffer-requires c κs = search needs
@@ -23,7 +27,7 @@ start-requires : tie.Need-start-requires Inv-loop μ-loop
 start-requires c κs = search needs
 
 loop-holds : tie.Need-loop-holds Inv-loop μ-loop
-loop-holds c = search needs
+loop-holds c = (([], reached-first (c .start .ensures) (length-replicate {A = ℕ} 4097 0)), sym (c .before .before .large-buffer .ensures), sym (c .before .large-buffer2 .ensures))
 
 slice-aggregate-read : tie.Need-slice-aggregate-read Inv-loop μ-loop
 slice-aggregate-read c = search needs
@@ -46,17 +50,8 @@ slice-aggregate-take-piece c = search needs
 slice-aggregate-take-piece-2 : tie.Need-slice-aggregate-take-piece-2 Inv-loop μ-loop
 slice-aggregate-take-piece-2 c = search needs
 
-slice-aggregate-take-piece-3 : tie.Need-slice-aggregate-take-piece-3 Inv-loop μ-loop
-slice-aggregate-take-piece-3 c = search needs
-
 take-piece-requires : tie.Need-take-piece-requires Inv-loop μ-loop
-take-piece-requires c κs = search needs
-
-slice-aggregate-flush : tie.Need-slice-aggregate-flush Inv-loop μ-loop
-slice-aggregate-flush c = search needs
-
-flush-requires : tie.Need-flush-requires Inv-loop μ-loop
-flush-requires c κs = search needs
+take-piece-requires c κs = let v = c .before .before .before .before .before .before .before .before .before .before .loop .inv in let l = v .2 in (v .0, omega (arith, l))
 
 sub-turns : tie.Need-sub-turns Inv-loop μ-loop
 sub-turns c = search needs
@@ -65,22 +60,18 @@ loop-less : tie.Need-loop-less Inv-loop μ-loop
 loop-less c = search needs
 
 loop-again : tie.Need-loop-again Inv-loop μ-loop
-loop-again c = search needs
+loop-again c =
+    let v = c .before .before .before .before .before .before .before .before .before .before .before .before .loop .inv .0 in
+    ((_, c .before .take-piece .ensures (v .0) (v .1)), search needs, search needs)
 
-slice-aggregate-take-line : tie.Need-slice-aggregate-take-line Inv-loop μ-loop
-slice-aggregate-take-line c = search needs
+slice-aggregate-take-piece-3 : tie.Need-slice-aggregate-take-piece-3 Inv-loop μ-loop
+slice-aggregate-take-piece-3 c = search needs
 
-slice-aggregate-take-line-2 : tie.Need-slice-aggregate-take-line-2 Inv-loop μ-loop
-slice-aggregate-take-line-2 c = search needs
+slice-aggregate-take-piece-4 : tie.Need-slice-aggregate-take-piece-4 Inv-loop μ-loop
+slice-aggregate-take-piece-4 c = search needs
 
-take-line-requires : tie.Need-take-line-requires Inv-loop μ-loop
-take-line-requires c κs = search needs
-
-slice-aggregate-flush-2 : tie.Need-slice-aggregate-flush-2 Inv-loop μ-loop
-slice-aggregate-flush-2 c = search needs
-
-flush-requires-2 : tie.Need-flush-requires-2 Inv-loop μ-loop
-flush-requires-2 c κs = search needs
+take-piece-requires-2 : tie.Need-take-piece-requires-2 Inv-loop μ-loop
+take-piece-requires-2 c κs = let v = c .before .before .before .before .loop .inv in let l = v .2 in (v .0, omega (arith, l))
 
 returns : tie.Need-returns Inv-loop μ-loop
 returns c = search needs
@@ -102,16 +93,11 @@ main-spec =
     array-share-prefix-piece
     slice-aggregate-take-piece
     slice-aggregate-take-piece-2
-    slice-aggregate-take-piece-3
     take-piece-requires
-    slice-aggregate-flush
-    flush-requires
     sub-turns
     loop-less
     loop-again
-    slice-aggregate-take-line
-    slice-aggregate-take-line-2
-    take-line-requires
-    slice-aggregate-flush-2
-    flush-requires-2
+    slice-aggregate-take-piece-3
+    slice-aggregate-take-piece-4
+    take-piece-requires-2
     returns)

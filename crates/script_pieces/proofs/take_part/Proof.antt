@@ -6,12 +6,13 @@ use native.Mathlib.Omega.{arith}
 use native.Mathlib.Nat.{add-zero}
 use lib.ListN.{length, take, drop, length-drop}
 use borrow.Author.Needs.{needs}
+use Rattle.laws.proofs.Lists.{rest}
 use Rattle.script_words.specs.Words.{before, lineOf}
 use Rattle.script_words.proofs.Words.{before-fits}
 use Rattle.script_text.specs.Puts.{Puts}
 use Rattle.script_text.proofs.Puts.{puts-none}
 use Rattle.script_pieces.specs.Parts.{endOf}
-use Rattle.script_pieces.proofs.Parts.{rest-whole, line-part, line-past, next-here, next-behind}
+use Rattle.script_pieces.proofs.Parts.{line-part, line-past, next-here, next-behind}
 use Rattle.script_pieces.proofs.take_part.Statement.{statement}
 use Rattle.script_pieces.proofs.take_part.Tie as tie
 
@@ -31,7 +32,7 @@ returns c =
 
 -- how far the line goes in what is left of the piece
 size : (p : List ℕ) (from r : ℕ) → r ≡ length (before 0x0a (take (length p - from) (drop from p))) → r ≡ length (lineOf (drop from p))
-size p from r e = e ∙ ap (λ (s : List ℕ). length (lineOf s)) (rest-whole p from)
+size p from r e = e ∙ ap (λ (s : List ℕ). length (lineOf s)) (rest p from)
 
 -- what was put is the line
 line : (p : List ℕ) (from r : ℕ) → r ≡ length (lineOf (drop from p)) → take ((from + r) - from) (drop from p) ≡ lineOf (drop from p)

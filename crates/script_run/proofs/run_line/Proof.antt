@@ -1,10 +1,11 @@
+-- `run_line` puts what the piece has of the line into the store, and answers the store's front where the line ended.
 use borrow.Author.Needs.{needs}
 use native.Mathlib.Omega.{arith}
-use mathlib.Core.Path.{_≡_, refl, sym, ap, subst, _∙_}
-use Prim.Native.Nat.{ℕ, zero, suc, _+_, _-_, _*_, _/_, _%_, _<_, _≤_}
-use lib.ListN.{length, getD, take, drop, set, length-set, length-take, length-drop, length-append}
+use mathlib.Core.Path.{_≡_, refl, sym}
+use Prim.Native.Nat.{ℕ, _+_, _-_, _≤_}
+use lib.ListN.{length, take, drop}
 use mathlib.Core.Bool.{true, false}
-use mathlib.Core.List.{List, []}
+use mathlib.Core.List.{List}
 use borrow.Author.Tests.{not-true, not-false}
 use lib.Seq.{length-take-le}
 use Rattle.script_text.proofs.Puts.{puts-none, puts-end, puts-length}
@@ -19,10 +20,6 @@ use Rattle.script_run.specs.Lines.{partDone, RunsLine}
 use Rattle.script_run.proofs.Behind.{puts-behind}
 use Rattle.script_run.proofs.run_line.Statement.{statement}
 use Rattle.script_run.proofs.run_line.Tie as tie
-use Rattle.script_run.proofs.run_line.Reads as reads
-use Rattle.script_run.proofs.run_line.Lts as lts
-use Rattle.script.proofs.answer_line.Reads as answer-line-reads
-use Rattle.script_pieces.proofs.take_part.Reads as take-part-reads
 
 -- what is kept stands inside the store
 inside : {piece store store′ : List ℕ} {at kept : ℕ} {r : Part} → Takes piece at kept store r store′ → kept ≤ length store → r .kept ≤ length store′
@@ -55,62 +52,49 @@ ended {piece} {store} {store′} {area} p {part} h t e q = record {
   next-is = refl;
 }
 
--- src/lib.rt:52:9
 take-part-requires : tie.Need-take-part-requires
 take-part-requires c κs = search needs
 
--- src/lib.rt:57:9
 same-length : tie.Need-same-length
 same-length c = search needs
 
--- src/lib.rt:57:9
 returns : tie.Need-returns
 returns c =
     let a = c .before .before .before .before .before .before .before .before .before .before in
     let k = c .before .before .before .before .before .take-part in
     begun (a .args .p) (k .ensures) (not-true (k .result .ended) (c .if1 .taken))
 
--- src/lib.rt:64:31
 slice-reshare-prefix-answer-line : tie.Need-slice-reshare-prefix-answer-line
 slice-reshare-prefix-answer-line c = inside (c .before .before .before .before .before .take-part .ensures) (c .before .before .before .before .before .before .before .before .before .before .pre .0)
 
--- src/lib.rt:64:31
 slice-aggregate-answer-line : tie.Need-slice-aggregate-answer-line
 slice-aggregate-answer-line c = sym (length-take-le _ _ (inside (c .before .before .before .before .before .before .take-part .ensures) (c .before .before .before .before .before .before .before .before .before .before .before .pre .0)))
 
--- src/lib.rt:64:47
 sub-answer-line : tie.Need-sub-answer-line
 sub-answer-line c = search needs
 
--- src/lib.rt:64:47
 part-answer-line-start : tie.Need-part-answer-line-start
 part-answer-line-start c = search needs
 
--- src/lib.rt:64:47
 part-answer-line-end : tie.Need-part-answer-line-end
 part-answer-line-end c = search needs
 
--- src/lib.rt:64:9
 answer-line-requires : tie.Need-answer-line-requires
 answer-line-requires c κs = search needs
 
--- src/lib.rt:70:14
 add-t17 : tie.Need-add-t17
 add-t17 c =
-    let a = c .before .before .before .before .before .before .before .before .before .before .before .before .before .before .before .before .before .args in
-    let h = puts-end (puts-behind (a .area .now) (a .p .len) (c .before .before .before .before .before .before .before .before .before .before .before .before .before .before .before .before .before .pre .1) (c .before .before .before .before .answer-line .ensures .text-is)) (c .before .before .before .before .before .before .before .before .before .before .before .before .before .before .before .before .before .pre .1) in
-    let fits = c .before .before .before .before .before .before .before .before .before .before .before .before .before .before .before .before .before .good .1 .1 .1 .0 .0 in
+    let a = c .before .before .before .before .before .before .before .before .before .before .before .before .before .before .before .before .before in
+    let h = puts-end (puts-behind (a .args .area .now) (a .args .p .len) (a .pre .1) (c .before .before .before .before .answer-line .ensures .text-is)) (a .pre .1) in
+    let fits = a .good .1 .1 .1 .0 .0 in
     omega (arith, h, fits)
 
--- src/lib.rt:48:1
 same-length-2 : tie.Need-same-length-2
 same-length-2 c = search needs
 
--- src/lib.rt:48:1
 same-length-3 : tie.Need-same-length-3
 same-length-3 c = search needs
 
--- src/lib.rt:48:1
 returns-2 : tie.Need-returns-2
 returns-2 c =
     let a = c .before .before .before .before .before .before .before .before .before .before .before .before .before .before .before .before .before in
