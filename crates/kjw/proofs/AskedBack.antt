@@ -2,7 +2,7 @@
 use mathlib.Core.Path.{_≡_, refl, sym, ap, _∙_}
 use mathlib.Core.Bool.{Bool, true, false, cond, _&&_}
 use mathlib.Core.List.{List, [], _∷_, _++_}
-use Prim.Native.Nat.{ℕ, _+_, _-_, _≤_}
+use Prim.Native.Nat.{ℕ, _+_, _≤_}
 use native.Mathlib.Omega.{arith}
 use lib.ListN.{length, getD, take}
 use lib.Seq.{take-at, getD-append-add, take-length}
@@ -20,9 +20,7 @@ use Rattle.kjw_sets.specs.Words.{stateLetters, switches, scenes}
 use Rattle.kjw_values.specs.Values.{switchWord, sceneWord, inputWord, valueOf}
 use Rattle.kjw_tells.specs.Texts.{bytesOf}
 use Rattle.kjw_asks.specs.Asks.{namedIn, stateNamed, toggleOf, controlBy, controlOf, enquiryOf, isOurs, heardOf}
-use Rattle.kjw_sets.specs.Sets.{chosen, choiceOrder, isVolume, isPadded, kindIn, portIn, inputOf, volumeOrder, inputOrder, setBy}
-use Rattle.kjw_sets.specs.declared.Choice.{Choice}
-use Rattle.kjw_sets.specs.declared.Choice.the-variants.{Is, Nothing}
+use Rattle.kjw_sets.specs.Sets.{Choice, aWord, noWord, chosen, choiceOrder, isVolume, isPadded, kindIn, portIn, inputOf, volumeOrder, inputOrder, setBy}
 use Rattle.kjw_asks.specs.declared.Named.{Named}
 use Rattle.kjw_asks.proofs.Names.{letters-name}
 use Rattle.kjw.specs.Orders.{flipped, withPower, withPmut, carried}
@@ -71,8 +69,8 @@ by-tests false b o k e = let z : _≡_ {A = ℕ} 0 1 = cc in absurd (omega arith
 -- a word that was carried out is the word of the number that the state then has
 by-word : (s : State) (order : ℕ → Order) (word : ℕ → List ℕ) (below : ℕ) (p : List ℕ) (k : KRecord) (c : Choice) → ((v : ℕ) → valueOf s (carried (order v) k) ≡ word v) → Chose word below p c → decided k (choiceOrder order c) .answer ≡ Done → valueOf s (decided k (choiceOrder order c) .k) ≡ p
 unfolding decided
-by-word s order word below p k (Is v) w h e = w v ∙ h .1
-by-word s order word below p k Nothing w h e = let z : _≡_ {A = ℕ} 0 1 = cc in absurd (omega arith)
+by-word s order word below p k (aWord v) w h e = w v ∙ h .1
+by-word s order word below p k noWord w h e = let z : _≡_ {A = ℕ} 0 1 = cc in absurd (omega arith)
 
 -- a control that is carried out sets its state to the value that its parameters write
 pub set-value : (s : State) (p : List ℕ) (k : KRecord) → length p ≡ 16 → decided k (setBy s p) .answer ≡ Done → valueOf s (decided k (setBy s p) .k) ≡ p

@@ -1,7 +1,7 @@
 -- A refusal leaves the record: only what is understood is carried out.
 use mathlib.Core.Path.{_≡_, refl}
 use mathlib.Core.List.{List}
-use Prim.Native.Nat.{ℕ, _-_}
+use Prim.Native.Nat.{ℕ}
 use Rattle.terms.specs.declared.Answer.the-variants.{Done}
 use Rattle.turns.specs.Turns.{Turn, taken}
 use Rattle.turns.proofs.Turns.{either}

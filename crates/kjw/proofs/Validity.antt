@@ -2,7 +2,7 @@
 use mathlib.Core.Path.{_≡_, refl}
 use mathlib.Core.Bool.{Bool, true, not, _&&_}
 use mathlib.Core.List.{List}
-use Prim.Native.Nat.{ℕ, _-_, _<_}
+use Prim.Native.Nat.{ℕ, _<_}
 use native.Mathlib.Omega.{arith}
 use lib.ListN.{length, getD}
 use lib.Dec.{eqb, leb}
@@ -19,7 +19,7 @@ use Rattle.panels.specs.declared.KRecord.{KRecord}
 use Rattle.decimals.specs.Decimals.{isDigit, decimal}
 use Rattle.kjw_asks.specs.Frames.{lettersOf, typeControl, blank}
 use Rattle.kjw_asks.specs.Asks.{stateNamed, toggleOf, controlBy, controlOf, enquiryBy, enquiryOf, isOurs, heardOf}
-use Rattle.kjw_sets.specs.Sets.{chosen, choiceOrder, isVolume, isPadded, kindIn, portIn, inputOf, volumeOrder, inputOrder, setBy, setOf}
+use Rattle.kjw_sets.specs.Sets.{Choice, aWord, noWord, chosen, choiceOrder, isVolume, isPadded, kindIn, portIn, inputOf, volumeOrder, inputOrder, setBy, setOf}
 use Rattle.kjw_asks.specs.declared.Named.{Named}
 use Rattle.kjw_asks.specs.declared.Named.the-variants.{Is, Nothing}
 use Rattle.kjw.specs.Orders.{flipped, carried}
@@ -31,8 +31,6 @@ use Rattle.kjw_sets.specs.declared.Order.the-variants.{SetPower, TogglePower, S
 use Rattle.kjw_sets.specs.declared.Heard.{Heard}
 use Rattle.kjw_sets.specs.declared.Heard.the-variants.{Refused, NotUnderstood, Understood}
 use Rattle.kjw_sets.specs.Words.{switches, scenes}
-use Rattle.kjw_sets.specs.declared.Choice.{Choice}
-use Rattle.kjw_sets.specs.declared.Choice.the-variants as choices
 use Rattle.kjw_sets.proofs.Parameters.{Chose, volume-most}
 use Rattle.kjw_values.specs.Values.{switchWord, sceneWord}
 use Rattle.kjw_values.proofs.Words.{switch-chosen, scene-chosen}
@@ -58,8 +56,8 @@ abbrev Sound : Heard → Type 0
 Sound h = sound h ≡ true
 
 word-sound : (order : ℕ → Order) (word : ℕ → List ℕ) (below : ℕ) (p : List ℕ) (c : Choice) → Chose word below p c → ((v : ℕ) → v < below → inRange (order v) ≡ true) → Sound (choiceOrder order c)
-word-sound order word below p (choices.Is v) h f = f v (h .0)
-word-sound order word below p choices.Nothing h f = refl
+word-sound order word below p (aWord v) h f = f v (h .0)
+word-sound order word below p noWord h f = refl
 
 switch-sound : (v : ℕ) → v < 2 → leb v 1 ≡ true
 switch-sound v h = le-leb v 1 (omega arith)

@@ -1,6 +1,6 @@
 -- What the parameters are that pass: by the sides of an `&&` that says yes, and word by word.
-use mathlib.Core.Path.{_≡_, sym}
-use mathlib.Core.Bool.{true, _&&_}
+use mathlib.Core.Path.{_≡_, refl, sym}
+use mathlib.Core.Bool.{Bool, true, false, cond, _&&_}
 use mathlib.Core.List.{List}
 use Prim.Native.Nat.{ℕ, zero, suc, _+_, _≤_, _<_}
 use native.Mathlib.Omega.{arith}
@@ -14,24 +14,36 @@ use Rattle.laws.proofs.Lists.{same-is, part-length}
 use Rattle.panels.specs.Records.{mostVolume}
 use Rattle.decimals.specs.Decimals.{isDigit, decimal}
 use Rattle.decimals.proofs.Decimals.{decimal-fits}
-use Rattle.kjw_sets.specs.Sets.{chosenFrom, isVolume, isPadded, kindIn, portIn, setBy, setOf}
-use Rattle.kjw_sets.specs.declared.Choice.{Choice}
-use Rattle.kjw_sets.specs.declared.Choice.the-variants.{Is, Nothing}
+use Rattle.kjw_sets.specs.Sets.{Choice, aWord, noWord, chosenFrom, chosen, choiceOrder, isVolume, isPadded, kindIn, portIn, setBy, setOf}
+use Rattle.kjw_sets.specs.Switches.{switchOrder}
+use Rattle.kjw_sets.specs.Words.{off, on, switches}
 use Rattle.kjw_sets.specs.declared.State.{State}
+use Rattle.kjw_sets.specs.declared.Order.{Order}
+use Rattle.kjw_sets.specs.declared.Heard.the-variants.{NotUnderstood, Understood}
 
 -- parameters that are the word of a number below so much, or no word
 abbrev pub Chose : (ℕ → List ℕ) → ℕ → List ℕ → Choice → Type 0
-Chose word below p (Is v) = (v < below) × (word v ≡ p)
-Chose word below p Nothing = Unit {0}
+Chose word below p (aWord v) = (v < below) × (word v ≡ p)
+Chose word below p noWord = Unit {0}
 
 -- what is chosen among the words of n numbers is one of these numbers, and its word is what was read
 pub chosen-word : (word : ℕ → List ℕ) (below n i : ℕ) (p : List ℕ) → i + n ≤ below → Chose word below p (chosenFrom i (places n i word) p)
 unfolding chosenFrom
 chosen-word word below zero i p h = tt
 chosen-word word below (suc n) i p h =
-    choose (Chose word below p) (same p (word i)) (Is i) (chosenFrom (i + 1) (places n (i + 1) word) p)
+    choose (Chose word below p) (same p (word i)) (aWord i) (chosenFrom (i + 1) (places n (i + 1) word) p)
     (λ e. (omega arith, sym (same-is p (word i) e)))
     (λ e. chosen-word word below n (i + 1) p (omega arith))
+
+-- off and on, with an order for each, are the two switches
+pub switch-ordered : (order : ℕ → Order) (p : List ℕ) → switchOrder (order 0) (order 1) p ≡ choiceOrder order (chosen switches p)
+unfolding switchOrder chosenFrom
+switch-ordered order p = go (same p off) (same p on)
+  where
+    go : (a b : Bool) → cond a (Understood (order 0)) (cond b (Understood (order 1)) NotUnderstood) ≡ choiceOrder order (cond a (aWord 0) (cond b (aWord 1) noWord))
+    go true b = refl
+    go false true = refl
+    go false false = refl
 
 pub volume-digits : (p : List ℕ) → isVolume p ≡ true → every isDigit p ≡ true
 unfolding isVolume

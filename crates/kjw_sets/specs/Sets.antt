@@ -10,8 +10,6 @@ use Rattle.panels.specs.Records.{mostVolume}
 use Rattle.panels.specs.Valid.{okInput}
 use Rattle.decimals.specs.Decimals.{isDigit, decimal}
 use Rattle.kjw_sets.specs.Words.{switches, scenes}
-use Rattle.kjw_sets.specs.declared.Choice.{Choice}
-use Rattle.kjw_sets.specs.declared.Choice.the-variants.{Is, Nothing}
 use Rattle.kjw_sets.specs.declared.State.{State}
 use Rattle.kjw_sets.specs.declared.State.the-variants.{Power, AudioMute, PictureMute, Volume, Input, Scene}
 use Rattle.kjw_sets.specs.declared.Order.{Order}
@@ -19,19 +17,24 @@ use Rattle.kjw_sets.specs.declared.Order.the-variants.{SetPower, SetAudi
 use Rattle.kjw_sets.specs.declared.Heard.{Heard}
 use Rattle.kjw_sets.specs.declared.Heard.the-variants.{NotUnderstood, Understood}
 
--- POWR, AMUT, PMUT and SCEN have words: which of some words the parameters are, where the first has the number i
-unfoldable pub chosenFrom : ℕ → List (List ℕ) → List ℕ → Choice
-chosenFrom i [] p = Nothing
-chosenFrom i (w ∷ ws) p = cond (same p w) (Is i) (chosenFrom (i + 1) ws p)
+-- POWR, AMUT, PMUT and SCEN have words: the parameters are one of them, by its number, or none
+pub data Choice : Type 0 where
+  aWord : ℕ → Choice
+  noWord : Choice
 
--- which they are: the first has the number 0
+-- which of some words they are, where the first has the number i
+unfoldable pub chosenFrom : ℕ → List (List ℕ) → List ℕ → Choice
+chosenFrom i [] p = noWord
+chosenFrom i (w ∷ ws) p = cond (same p w) (aWord i) (chosenFrom (i + 1) ws p)
+
+-- and where it has the number 0
 abbrev pub chosen : List (List ℕ) → List ℕ → Choice
 chosen ws p = chosenFrom 0 ws p
 
 -- the order with the number of the word
 abbrev pub choiceOrder : (ℕ → Order) → Choice → Heard
-choiceOrder order (Is v) = Understood (order v)
-choiceOrder order Nothing = NotUnderstood
+choiceOrder order (aWord v) = Understood (order v)
+choiceOrder order noWord = NotUnderstood
 
 -- "VOLU, 16 decimal digits, 0 to 100 (house)"
 unfoldable pub isVolume : List ℕ → Bool

@@ -10,7 +10,8 @@ ghost use mathlib.Core.Path.{_≡_};
 ghost use Prim.Native.Nat.{_≤_};
 ghost use lib.ListN.{length};
 ghost use Rattle.kjw_sets.specs.Sets.{chosen, choiceOrder, volumeOrder, isPadded, inputOf, inputOrder, setOf};
-ghost use Rattle.kjw_sets.specs.Words.{stateLetters, switches, scenes};
+ghost use Rattle.kjw_sets.specs.Words.{stateLetters, scenes};
+ghost use Rattle.kjw_sets.specs.Switches.{switchOrder};
 
 // What an enquiry asks for and a notice tells: POWR, AMUT, PMUT, VOLU, INPT, SCEN.
 pub enum State {
@@ -42,12 +43,6 @@ pub enum Heard {
     Understood(Order),
 }
 
-// Which of a state's words the parameters are, if they are one: the first word's number is 0.
-pub enum Choice {
-    Is(u8),
-    Nothing,
-}
-
 // A state's letters.
 pub fn state_letters(s: State) -> [u8; 4]
     ensures { λ r. ⌜ r ≡ stateLetters s ⌝ }
@@ -62,17 +57,17 @@ pub fn state_letters(s: State) -> [u8; 4]
     }
 }
 
-// "Fifteen `0` and 0 or 1."
-fn switch_of(p: &[u8]) -> Choice
-    ensures { λ r. ⌜ r ≡ chosen switches (now (p .entry)) ⌝ }
+// "Fifteen `0` and 0 or 1": the order for 0, or that for 1.
+fn switch_order(p: &[u8], off: Order, on: Order) -> Heard
+    ensures { λ r. ⌜ r ≡ switchOrder off on (now (p .entry)) ⌝ }
 {
     if same_bytes(p, b"0000000000000000") {
-        return Choice::Is(0);
+        return Heard::Understood(off);
     }
     if same_bytes(p, b"0000000000000001") {
-        return Choice::Is(1);
+        return Heard::Understood(on);
     }
-    Choice::Nothing
+    Heard::NotUnderstood
 }
 
 // "SCEN `auto`, `auto24pSync` or `general`, padded with `#`."
@@ -157,18 +152,9 @@ pub fn set_order(s: State, p: &[u8]) -> Heard
         return Heard::NotUnderstood;
     }
     match s {
-        State::Power => match switch_of(p) {
-            Choice::Is(v) => Heard::Understood(Order::SetPower(v)),
-            Choice::Nothing => Heard::NotUnderstood,
-        },
-        State::AudioMute => match switch_of(p) {
-            Choice::Is(v) => Heard::Understood(Order::SetAudioMute(v)),
-            Choice::Nothing => Heard::NotUnderstood,
-        },
-        State::PictureMute => match switch_of(p) {
-            Choice::Is(v) => Heard::Understood(Order::SetPictureMute(v)),
-            Choice::Nothing => Heard::NotUnderstood,
-        },
+        State::Power => switch_order(p, Order::SetPower(0), Order::SetPower(1)),
+        State::AudioMute => switch_order(p, Order::SetAudioMute(0), Order::SetAudioMute(1)),
+        State::PictureMute => switch_order(p, Order::SetPictureMute(0), Order::SetPictureMute(1)),
         State::Volume => volume_order(p),
         State::Input => input_order(p),
         State::Scene => scene_order(p),

@@ -41,8 +41,6 @@ use Rattle.kjw_sets.specs.declared.State.{State}
 use Rattle.kjw_sets.specs.declared.State.the-variants.{Power, AudioMute, PictureMute, Volume, Input, Scene}
 use Rattle.kjw_sets.specs.declared.Order as frameOrder
 use Rattle.kjw_sets.specs.declared.Order.the-variants as frameOrders
-use Rattle.kjw_sets.specs.declared.Choice as frameChoice
-use Rattle.kjw_sets.specs.declared.Choice.the-variants as frameChoices
 use Rattle.kjw_sets.specs.declared.Heard as frameHeard
 use Rattle.kjw_sets.specs.declared.Heard.the-variants as frameIs
 
@@ -227,9 +225,9 @@ frame-number (frameIs.Refused a) j = absurd j
 frame-number frameIs.NotUnderstood j = refl
 frame-number (frameIs.Understood o) j = refl
 
-choice-judged : (order : ℕ → frameOrder.Order) (c : frameChoice.Choice) → FrameJudged (frameSets.choiceOrder order c)
-choice-judged order (frameChoices.Is v) = tt
-choice-judged order frameChoices.Nothing = tt
+choice-judged : (order : ℕ → frameOrder.Order) (c : frameSets.Choice) → FrameJudged (frameSets.choiceOrder order c)
+choice-judged order (frameSets.aWord v) = tt
+choice-judged order frameSets.noWord = tt
 
 input-judged : (kind port : ℕ) → FrameJudged (frameSets.inputOf kind port)
 unfolding frameSets.inputOf
