@@ -63,11 +63,12 @@ fn run_line(p: Progress, piece: &[u8], store: &mut [u8], area: &mut [u8]) -> Pro
     }
     let a = answer_line(held, &store[..kept], &mut area[len..]);
     let after = a.after;
+    let full = len + a.len;
     Progress {
         held: after,
         kept: 0,
         next: part.next,
-        len: len + a.len,
+        len: full,
     }
 }
 

@@ -82,8 +82,8 @@ part-answer-line-end c = search needs
 answer-line-requires : tie.Need-answer-line-requires
 answer-line-requires c κs = search needs
 
-add-t17 : tie.Need-add-t17
-add-t17 c =
+add-full : tie.Need-add-full
+add-full c =
     let a = c .before .before .before .before .before .before .before .before .before .before .before .before .before .before .before .before .before in
     let h = puts-end (puts-behind (a .args .area .now) (a .args .p .len) (a .pre .1) (c .before .before .before .before .answer-line .ensures .text-is)) (a .pre .1) in
     let fits = a .good .1 .1 .1 .0 .0 in
@@ -114,7 +114,7 @@ run-line-spec =
     part-answer-line-start
     part-answer-line-end
     answer-line-requires
-    add-t17
+    add-full
     same-length-2
     same-length-3
     returns-2)
