@@ -1,5 +1,6 @@
 pub mod Behind
 pub mod Determined
+pub mod Examples
 pub mod Further
 pub mod Going
 pub mod Kept
