@@ -2,6 +2,7 @@
 use libc::STDIN_FILENO;
 use libc::STDOUT_FILENO;
 use script_run::Progress;
+use script_run::STORE;
 use script_run::run_piece;
 use script_run::start;
 ghost use Prim.Native.Nat.{ℕ, _≤_};
@@ -10,7 +11,7 @@ ghost use lib.ListN.{length};
 ghost use Rattle.script_run.specs.Calls.{Reached};
 
 // A piece of the script is run to its end, and its text is written each time that the area has no more room.
-fn take_piece(p: Progress, piece: &[u8], store: &mut [u8; 4097], area: &mut [u8]) -> Progress
+fn take_piece(p: Progress, piece: &[u8], store: &mut [u8; STORE], area: &mut [u8]) -> Progress
     requires { ⌜ ((bytes : List ℕ) × Reached bytes (p .held) (now store) (p .kept)) × (4096 ≤ length (now area)) ⌝ }
     ensures { λ r. ⌜ ((bytes : List ℕ) → Reached bytes (p .held) (now (store .entry)) (p .kept) → Reached (bytes ++ now (piece .entry)) (r .held) (now (store .exit)) (r .kept)) ⌝ }
 {
@@ -31,7 +32,7 @@ fn take_piece(p: Progress, piece: &[u8], store: &mut [u8; 4097], area: &mut [u8]
 // it": 0Ah behind the input ends the last line, and behind a line that has ended it is an empty line.
 fn main() {
     let mut piece = io::large_buffer();
-    let mut store = [0u8; 4097];
+    let mut store = [0u8; STORE];
     let mut area = io::large_buffer();
     let mut p = Progress {
         held: start(),

@@ -11,7 +11,7 @@ ghost use Rattle.script_run.specs.Lines.{RunsLine};
 ghost use Rattle.script_run.specs.Pieces.{Runs};
 
 // Of a line so many bytes are kept: enough to see that it is too long.
-const STORE: usize = 4097;
+pub const STORE: usize = 4097;
 
 // Room for the longest text of a line.
 const ROOM: usize = 4096;
