@@ -18,11 +18,11 @@
  *     .. write the first o.length bytes of area to the console; o.answer is for the log ..
  *
  * State. The archive has none: no globals, no heap, no files, no threads. All
- * that is remembered is in the struct display_box that is handed in. So there
- * may be as many boxes as a host likes, and none knows of another. Two calls may
- * run at the same time in two threads where no area or box that one of them
- * writes is read or written by the other; calls on one box are for the host to
- * put in order.
+ * that is remembered is in the struct display_box that is handed in, and of bytes
+ * off a TCP link in that link's struct box_receiver. So there may be as many of
+ * them as a host likes, and none knows of another. Two calls may run at the same
+ * time in two threads where no area, box or receiver that one of them writes is
+ * read or written by the other; calls on one box are for the host to put in order.
  *
  * Areas. An area is a pointer and a length in bytes, in that order.
  *   - An empty area has length 0; its pointer may then be NULL.
@@ -33,14 +33,16 @@
  *     to that is taken, and every content.
  *   - Areas that a call only reads may overlap each other. What a call writes
  *     (the area of box_take, the out of box_advert_write, the box of box_take and
- *     box_configure, the panel of box_panel_at) must not overlap anything else
- *     that is handed to that call. So a message is never its own reply's area.
+ *     box_configure, the panel of box_panel_at, the receiver and the packet of
+ *     box_receive) must not overlap anything else that is handed to that call. So
+ *     a message is never its own reply's area, nor a piece its own packet's.
  *   - The pointers are used during the call only; none is kept.
  *
- * Boxes and panels. These pointers must not be NULL, and are aligned as their
- * struct is (_Alignof(struct display_box) is 8): a variable of that type is, and
- * what malloc gives is. Any bits are a box. One that breaks the rules is answered
- * as a box of no panels, and comes back bit for bit as it was.
+ * Boxes, panels and receivers. These pointers must not be NULL, and are aligned as
+ * their struct is (_Alignof(struct display_box) is 8, as of a receiver): a variable
+ * of that type is, and what malloc gives is. Any bits are a box. One that breaks
+ * the rules is answered as a box of no panels, and comes back bit for bit as it
+ * was. Any bits are a receiver too; one that claims too much is an empty one.
  *
  * Stack. A call needs at most BOX_STACK_LENGTH bytes of it, whatever is handed
  * in and however long it is.
@@ -92,8 +94,9 @@ enum box_way {
 /* ---- the records, as they lie in memory: no padding anywhere */
 
 /*
- * Grows when the records change. A host that saves a box writes this number in
- * front of it, and loads only what has the number that it was compiled with.
+ * Grows when the records of a box change. A host that saves a box writes this
+ * number in front of it, and loads only what has the number that it was compiled
+ * with. A receiver is not saved: its connection is over by then.
  */
 #define BOX_LAYOUT 1
 
@@ -198,11 +201,30 @@ struct display_box {
     struct box_panel panels[BOX_PANELS];
 };
 
+/* The longest packet: a header of 13 bytes and 499 bytes of data. Its area has so many bytes, whatever comes. */
+#define BOX_PACKET_LENGTH 512
+
+/*
+ * The receiver of a TCP link: the bytes of a packet that is not whole yet, at the
+ * store's front. After each call the store is 0 behind them. All zeros is an empty
+ * receiver.
+ */
+struct box_receiver {
+    size_t held;
+    uint8_t store[BOX_PACKET_LENGTH];
+};
+
 /* ---- the box */
 
 /* What a message did: an answer of enum box_answer, and how many bytes of the area are the reply. */
 struct box_outcome {
     uint8_t answer;
+    size_t length;
+};
+
+/* What became of a piece: how many of its bytes were taken, and the length of the packet that was handed out, 0 for none. */
+struct box_received {
+    size_t taken;
     size_t length;
 };
 
@@ -217,6 +239,8 @@ struct box_outcome {
 BOX_LENGTH_IS(box_panel, 60);
 BOX_LENGTH_IS(display_box, 488);
 BOX_LENGTH_IS(box_outcome, 16);
+BOX_LENGTH_IS(box_receiver, 520);
+BOX_LENGTH_IS(box_received, 16);
 #undef BOX_LENGTH_IS
 
 /*
@@ -280,6 +304,44 @@ static inline uint8_t box_take_udp(struct display_box *box, const uint8_t *messa
  * the box has no such panel or breaks the rules. The family tells: 0 is none.
  */
 void box_panel_at(const struct display_box *box, size_t link, struct box_panel *panel);
+
+/* ---- SDCP off the wire */
+
+/*
+ * A TCP link delivers bytes in pieces that are cut anywhere. A call takes the next
+ * piece and hands out one whole packet at most, at the front of packet; all of
+ * packet behind it keeps what it held. A call that hands out a packet takes no
+ * byte behind it, and the rest of the piece is for the next call; a call that
+ * hands out nothing (length 0) has taken the whole piece. So with each piece:
+ *
+ *     for (;;) {
+ *         struct box_received got = box_receive(&receiver, piece, piece_length, packet);
+ *         piece += got.taken;
+ *         piece_length -= got.taken;
+ *         if (got.length == 0)
+ *             break;
+ *         struct box_outcome o = box_take_tcp(&box, link, packet, got.length, area, sizeof area);
+ *         .. write the first o.length bytes of area to the console ..
+ *     }
+ *
+ * Each packet then reaches the box before the next is looked for, and packets,
+ * answers and replies are the same however the bytes were cut.
+ *
+ * Bytes are dropped until the next can begin 03h 0Bh "SONY"; with 13 bytes the
+ * packet's length is known. A header that says more than 499 bytes of data is
+ * handed out alone, 13 bytes, which box_take_tcp answers with BOX_ENVELOPE_WRONG,
+ * or with BOX_NOT_FOR_US where nobody is addressed; its data is then searched like
+ * any other bytes. Packets that address nobody are handed out too. What is held is
+ * read before the piece: a receiver that was handed in with a whole packet gives
+ * it with 0 bytes taken.
+ *
+ * A receiver belongs to one connection. The host empties it, all bytes to 0, when
+ * the connection ends: half a packet of one console must not meet the first bytes
+ * of the next.
+ */
+struct box_received box_receive(struct box_receiver *receiver,
+                                const uint8_t *piece, size_t piece_length,
+                                uint8_t packet[BOX_PACKET_LENGTH]);
 
 /* ---- adverts and checksums */
 

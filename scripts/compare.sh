@@ -15,9 +15,17 @@ both() {
     cmp -s "$room/box" "$room/second"
 }
 
-# order_lines SCRIPT: the lines of it that are orders, each of which is answered by one line; orders SCRIPT: how many
+# order_lines SCRIPT: the lines of it that are orders, each of which is answered; orders SCRIPT: how many
 order_lines() { LC_ALL=C grep -a '^[^#]' "$1"; }
 orders() { order_lines "$1" | wc -l; }
+
+# answers FILE: what was written, one line for each order: the lines of a `piece`, from its first `packet` to `held`, stand in one
+answers() {
+    LC_ALL=C awk '
+        { answer = goes_on ? answer " / " $0 : $0; goes_on = /^packet / || goes_on && !/^held / }
+        !goes_on { print answer }
+        END { if (goes_on) print answer }' "$1"
+}
 
 # compared NAME WORD..: the script that the generator writes for these words; its orders are counted in $total
 compared() {
@@ -26,9 +34,12 @@ compared() {
     "$generate" "$@" > "$room/script"
     total=$((total + $(orders "$room/script")))
     both "$room/script" && return
-    echo "differs: $name; the first lines that do, of the box (<) and of the second program (>):"
-    diff -a "$room/box" "$room/second" | head -n 6
-    echo "the first of them at the order: $(order_lines "$room/script" | sed -n "$(diff -a "$room/box" "$room/second" | sed -n '1s/[^0-9].*//p')p")"
+    answers "$room/box" > "$room/box.answers"
+    answers "$room/second" > "$room/second.answers"
+    diff -a "$room/box.answers" "$room/second.answers" > "$room/differing"
+    echo "differs: $name; the first answers that do, of the box (<) and of the second program (>):"
+    head -n 6 "$room/differing"
+    echo "the first of them at the order: $(order_lines "$room/script" | sed -n "$(sed -n '1s/[^0-9].*//p' "$room/differing")p")"
     exit 1
 }
 

@@ -10,6 +10,7 @@ use crate::checksum;
 use crate::config::{configure, DisplayBox};
 use crate::message::{receive, Way};
 use crate::panel::{Connector, KSettings, Panel, Settings, WSettings};
+use crate::receiver::Receiver;
 use crate::vmc;
 
 /// "A line holds at most 4,096 bytes before its end."
@@ -20,6 +21,9 @@ const MOST_BYTES: usize = 1024;
 
 /// "0 to 16 panels may be written".
 const MOST_PANELS_WRITTEN: usize = 16;
+
+/// "the receiver of TCP link LINK (1 to 8)".
+const RECEIVERS: u32 = 8;
 
 /// Reply areas come filled with this byte.
 const FILL: u8 = 0xA5;
@@ -62,19 +66,21 @@ fn next_line(input: &mut impl BufRead, line: &mut Vec<u8>) -> io::Result<bool> {
     }
 }
 
-/// The box between the orders.
+/// The box between the orders, and the receiver of each TCP link.
 #[derive(Debug, Default)]
 pub struct Replay {
     held: DisplayBox,
+    receivers: [Receiver; RECEIVERS as usize],
 }
 
 impl Replay {
-    /// "A script starts with a box of no panels."
+    /// "A script starts with a box of no panels, and with empty receivers."
     pub fn new() -> Replay {
         Replay::default()
     }
 
-    /// What one line (without its end) is answered with; nothing for an empty line or a comment.
+    /// What one line (without its end) is answered with; nothing for an empty line or a comment. A
+    /// `piece` is answered with several lines, one below the other.
     pub fn answer_line(&mut self, line: &[u8]) -> Option<String> {
         // "An empty line, and a line that begins with `#` (however long), is passed over".
         if line.is_empty() || line[0] == b'#' {
@@ -89,6 +95,7 @@ impl Replay {
 
     fn carry_out(&mut self, order: Order) -> String {
         match order {
+            // "`box` makes a new box and leaves receivers ... alone".
             Order::Box(description) => {
                 let (answer, new_box) = configure(&description);
                 self.held = new_box;
@@ -124,7 +131,28 @@ impl Replay {
                 };
                 text.to_string()
             }
+            Order::Piece { link, area, bytes } => self.piece(link, area, &bytes),
         }
+    }
+
+    /// "a piece to the receiver of TCP link LINK (1 to 8), called until a call hands out nothing;
+    /// each packet goes to the box as by `tcp LINK AREA` at once". Writes "for each packet `packet
+    /// HEX` and the line that `tcp` would write; then `held N`, the bytes that the receiver keeps".
+    fn piece(&mut self, link: u32, area: usize, piece: &[u8]) -> String {
+        let receiver = link as usize - 1;
+        let mut lines = Vec::new();
+        let mut rest = piece;
+        loop {
+            let call = self.receivers[receiver].take(rest);
+            rest = &rest[call.taken..];
+            let Some(packet) = call.packet else {
+                break;
+            };
+            lines.push(format!("packet {}", hex(&packet)));
+            lines.push(self.message(area, |area| Way::Tcp { link, area }, &packet));
+        }
+        lines.push(format!("held {}", self.receivers[receiver].held));
+        lines.join("\n")
     }
 
     fn message(
@@ -265,6 +293,11 @@ enum Order {
     Advert(Vec<u8>),
     Write(Box<WriteOrder>),
     Sum(Vec<u8>),
+    Piece {
+        link: u32,
+        area: usize,
+        bytes: Vec<u8>,
+    },
 }
 
 struct WriteOrder {
@@ -313,6 +346,11 @@ fn read_order(line: &[u8]) -> Option<Order> {
         [b"advert", bytes] => Some(Order::Advert(read_hex(bytes)?)),
         [b"write", fields @ ..] => read_write(fields),
         [b"sum", bytes] => Some(Order::Sum(read_hex(bytes)?)),
+        [b"piece", link, area, bytes] => Some(Order::Piece {
+            link: read_link_with_receiver(link)?,
+            area: read_area(area)?,
+            bytes: read_hex(bytes)?,
+        }),
         _ => None,
     }
 }
@@ -384,6 +422,11 @@ fn read_byte(word: &[u8]) -> Option<u8> {
 
 fn read_short(word: &[u8]) -> Option<u16> {
     u16::try_from(read_number(word)?).ok()
+}
+
+/// The number of a link that has a receiver.
+fn read_link_with_receiver(word: &[u8]) -> Option<u32> {
+    read_number(word).filter(|link| (1..=RECEIVERS).contains(link))
 }
 
 fn read_area(word: &[u8]) -> Option<usize> {

@@ -35,7 +35,7 @@ fn the_last_line_may_lack_its_end() {
 
 #[test]
 fn lines_that_are_unread() {
-    let lines: [&[u8]; 41] = [
+    let lines: [&[u8]; 54] = [
         b" ",
         b" show 1",
         b"show 1 ",
@@ -75,7 +75,20 @@ fn lines_that_are_unread() {
         b"box WW 1 1",
         b"box W 256 1",
         b"box W 01 1",
-        b"piece 1 512 -",
+        b"piece",
+        b"piece 1 512",
+        b"piece 1 512 - -",
+        b"piece 0 512 -",
+        b"piece 9 512 -",
+        b"piece 01 512 -",
+        b"piece 257 512 -",
+        b"piece 4294967297 512 -",
+        b"piece 1 1025 -",
+        b"piece 1 512 0",
+        b"piece 1 512 --",
+        b"Piece 1 512 -",
+        b"pieces 1 512 -",
+        b"plain -",
         b"write 122 11 - 0 0 - 0 0 0 0 0 0 - - 1",
     ];
     for line in lines {
@@ -138,6 +151,90 @@ fn links_beyond_the_box_are_answered_by_the_box() {
 fn hex_of_either_case_comes_out_in_capitals() {
     let text = answers(b"box W 1 1\nrs232 1 1024 020301416e4d\nudp ff\n");
     assert_eq!(text, "box 0\nanswer 0 reply 020441017E013B\nanswer 3\n");
+    let text = answers(b"piece 1 512 030b534f4e59000000b0000000\n");
+    let packet = "packet 030B534F4E59000000B0000000";
+    assert_eq!(text, format!("{packet}\nanswer 2 reply -\nheld 0\n"));
+}
+
+/// STATset VOLUME 40 to the link's own panel, and the OK for it.
+const SET: &str = "030B534F4E59000000B00000115354415473657420564F4C554D45203430";
+const OK: &str = "answer 0 reply 030B534F4E59000001B0000000";
+
+// "for each packet `packet HEX` and the line that `tcp` would write; then `held N`".
+#[test]
+fn a_piece_writes_a_packet_and_its_answer_and_what_is_held() {
+    let text = answers(format!("box W 1 1\npiece 1 512 {SET}\n").as_bytes());
+    assert_eq!(text, format!("box 0\npacket {SET}\n{OK}\nheld 0\n"));
+    let (first, last) = SET.split_at(20);
+    let script =
+        format!("box W 1 1\npiece 1 512 {first}\npiece 1 512 -\npiece 1 512 {last}00030B\n");
+    let text = format!("box 0\nheld 10\nheld 10\npacket {SET}\n{OK}\nheld 2\n");
+    assert_eq!(answers(script.as_bytes()), text);
+    let script = format!("box W 1 1\npiece 1 512 {SET}FF{SET}{SET}03\n");
+    let one = format!("packet {SET}\n{OK}\n");
+    assert_eq!(
+        answers(script.as_bytes()),
+        format!("box 0\n{}held 1\n", one.repeat(3))
+    );
+}
+
+// "each packet goes to the box as by `tcp LINK AREA` at once": the second asks what the first set.
+#[test]
+fn a_packet_goes_to_the_box_at_once() {
+    let get = "030B534F4E59000000B000000E5354415467657420564F4C554D45";
+    let told = "answer 0 reply 030B534F4E59000001B0000009564F4C554D45203430";
+    let text = answers(format!("box W 1 1\npiece 1 512 {SET}{get}\n").as_bytes());
+    assert_eq!(
+        text,
+        format!("box 0\npacket {SET}\n{OK}\npacket {get}\n{told}\nheld 0\n")
+    );
+}
+
+// A receiver stands before the box: a packet is handed out whatever the box says of it.
+#[test]
+fn a_packet_is_handed_out_whatever_the_box_says() {
+    let script =
+        format!("piece 8 512 {SET}\nbox W 1 1 K 0 0\npiece 1 511 {SET}\npiece 2 512 {SET}\n");
+    let text = answers(script.as_bytes());
+    let told = |number: u8| format!("packet {SET}\nanswer {number} reply -\nheld 0\n");
+    assert_eq!(text, format!("{}box 0\n{}{}", told(2), told(1), told(2)));
+}
+
+// "The script starts with ... empty receivers"; each link has its own, and `box` and whole messages
+// leave them alone.
+#[test]
+fn each_link_has_a_receiver_of_its_own() {
+    let mut script = "box W 1 1 W 1 2 W 1 3 W 1 4 W 1 5 W 1 6 W 1 7 W 1 8\n".to_string();
+    let mut text = "box 0\n".to_string();
+    for link in 1..=8 {
+        script.push_str(&format!("piece {link} 512 {}\n", &SET[..2 * link]));
+        text.push_str(&format!("held {link}\n"));
+    }
+    script.push_str(&format!(
+        "box\nbox W 1 1\ntcp 1 512 {SET}\nrs232 1 512 -\nunread\n"
+    ));
+    text.push_str(&format!("box 7\nbox 0\n{OK}\nanswer 3 reply -\nunread\n"));
+    for link in (1..=8).rev() {
+        script.push_str(&format!("piece {link} 512 {}\n", &SET[2 * link..]));
+        let told = if link == 1 { OK } else { "answer 2 reply -" };
+        text.push_str(&format!("packet {SET}\n{told}\nheld 0\n"));
+    }
+    assert_eq!(answers(script.as_bytes()), text);
+}
+
+// 1,024 bytes are the longest piece: 78 packets without data, and 10 bytes.
+#[test]
+fn the_longest_piece() {
+    let empty = "030B534F4E59000000B0000000";
+    let piece = format!("{}{}", empty.repeat(78), &empty[..20]);
+    assert_eq!(piece.len(), 2048);
+    let one = format!("packet {empty}\nanswer 6 reply 030B534F4E59000001B0000000\n");
+    let text = answers(format!("box W 1 1\npiece 1 512 {piece}\n").as_bytes());
+    assert_eq!(text, format!("box 0\n{}held 10\n", one.repeat(78)));
+    assert_eq!(
+        answers(format!("piece 1 512 {piece}00\n").as_bytes()),
+        "unread\n"
+    );
 }
 
 #[test]
@@ -162,6 +259,7 @@ fn any_bytes_are_answered_without_a_panic() {
         "udp",
         "show",
         "sum",
+        "piece 1 512",
     ] {
         for byte in (0..=255).filter(|byte| *byte != b'\n' && *byte != b'-') {
             let line = [order.as_bytes(), b" ", &[byte]].concat();

@@ -35,3 +35,8 @@ fn evening_white_balance() {
 fn hostile_console() {
     compare("hostile-console");
 }
+
+#[test]
+fn dripping_console() {
+    compare("dripping-console");
+}

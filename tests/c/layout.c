@@ -3,7 +3,8 @@
  * where a size, an offset or the meaning of a byte drifts. First what the
  * compiler sees, the sizes and offsets as sums of what stands before. Then what
  * the archive does: where the start values stand, which bytes a message sets,
- * and which bytes are judged. What is expected is document 01's.
+ * which bytes are judged, and which bytes a piece sets in a receiver. What is
+ * expected is document 01's, and of receivers document 02's.
  */
 #include "areas.h"
 #include "messages.h"
@@ -17,7 +18,7 @@ _Static_assert(BOX_LAYOUT == 1, "the number of these sizes and offsets: another 
 _Static_assert(BOX_PANELS == 8 && BOX_CONNECTORS == 10, "panels and connectors");
 _Static_assert(BOX_SETTINGS == 3 + 3 + 15 && BOX_SHIFTS == 2, "levels, choices and switches; shifts");
 _Static_assert(BOX_FAMILY_W == 'W' && BOX_FAMILY_K == 'K', "families");
-_Static_assert(BOX_AREA_LENGTH == 512 && BOX_ADVERT_LENGTH == 122, "areas");
+_Static_assert(BOX_AREA_LENGTH == 512 && BOX_ADVERT_LENGTH == 122 && BOX_PACKET_LENGTH == 512, "areas");
 
 AT(box_group, id, 0);
 SIZE(box_group, 1);
@@ -66,6 +67,15 @@ _Static_assert(_Alignof(struct display_box) == 8, "a box is aligned as its count
 AT(box_outcome, answer, 0);
 AT(box_outcome, length, 8);
 SIZE(box_outcome, 8 + 8);
+
+AT(box_receiver, held, 0);
+AT(box_receiver, store, 8);
+SIZE(box_receiver, 8 + 512);
+_Static_assert(_Alignof(struct box_receiver) == 8, "a receiver is aligned as its number");
+
+AT(box_received, taken, 0);
+AT(box_received, length, 8);
+SIZE(box_received, 8 + 8);
 
 /* ---- the fields of a panel */
 
@@ -473,6 +483,71 @@ static void judges_pairs(void)
         }
 }
 
+/* ---- the bytes of a receiver */
+
+/* The longest packet, no byte of whose data is 0. */
+static struct message longest_packet(void)
+{
+    char data[BOX_PACKET_LENGTH - 13 + 1] = "";
+    for (size_t i = 0; i + 1 < sizeof data; i++)
+        data[i] = (char)(1 + i % 127);
+    return sdcp_packet(0, 0, data);
+}
+
+/* A number as it lies in memory: 8 bytes, low byte first. */
+static void lay_number(uint8_t *bytes, uint64_t number)
+{
+    for (size_t i = 0; i < 8; i++)
+        bytes[i] = (uint8_t)(number >> 8 * i);
+}
+
+/* The record as it lies in memory: the number of bytes held, those bytes, and 0 behind them. */
+static void lay_receiver(struct box_receiver *receiver, uint64_t held, const uint8_t *store, size_t n)
+{
+    uint8_t *bytes = (uint8_t *)receiver;
+    memset(bytes, 0, 8 + 512);
+    lay_number(bytes, held);
+    memcpy(bytes + 8, store, n);
+}
+
+/* A call with that piece gives these two numbers, and leaves a receiver that holds these bytes; each byte of both is looked at. */
+static void receives(struct box_receiver *receiver, const uint8_t *piece, size_t n, size_t taken, size_t length,
+                     const uint8_t *held, size_t held_length, long turn)
+{
+    uint8_t packet[BOX_PACKET_LENGTH], numbers[8 + 8];
+    struct box_receiver want;
+    struct box_received got = box_receive(receiver, piece, n, packet);
+    lay_number(numbers, taken);
+    lay_number(numbers + 8, length);
+    lay_receiver(&want, held_length, held, held_length);
+    expect(memcmp(&got, numbers, sizeof numbers) == 0, "taken and length of a piece", turn, (long)got.taken);
+    expect(memcmp(receiver, &want, sizeof want) == 0, "a receiver's bytes", turn, (long)held_length);
+}
+
+/* A packet cut at each place: the number and the store stand where C has them, first as they are left, then as they are read. */
+static void receivers_hold(void)
+{
+    struct message m = longest_packet();
+    struct box_receiver receiver;
+    for (size_t cut = 0; cut < m.length; cut++) {
+        lay_receiver(&receiver, 0, m.bytes, 0);
+        receives(&receiver, m.bytes, cut, cut, 0, m.bytes, cut, (long)cut);
+        lay_receiver(&receiver, cut, m.bytes, cut);
+        receives(&receiver, m.bytes + cut, m.length - cut, m.length - cut, m.length, m.bytes, 0, (long)cut);
+    }
+}
+
+/* "one that claims to hold more is emptied first": each bit of the number from 512 up counts, and what follows is noise. */
+static void receivers_claim(void)
+{
+    struct message m = longest_packet();
+    struct box_receiver receiver;
+    for (int bit = 9; bit < 64; bit++) {
+        lay_receiver(&receiver, 5 + ((uint64_t)1 << bit), m.bytes, 5);
+        receives(&receiver, m.bytes + 5, m.length - 5, m.length - 5, 0, m.bytes, 0, bit);
+    }
+}
+
 int main(void)
 {
     static const char *const mixed[] = { "WKWKWKWK", "KWKWKWKW" };
@@ -485,5 +560,7 @@ int main(void)
         judges_count(mixed[i]);
     }
     judges_pairs();
+    receivers_hold();
+    receivers_claim();
     return verdict();
 }

@@ -1,9 +1,9 @@
 /*
  * `replay` in C, over the calls of the archive: a script on standard input, and
  * on standard output what docs/SCRIPTS.md says that it writes. tests/from_c holds
- * it against the second program. Message, area and box stand alone in memory:
- * flush against a guard page behind them, or in front of them with the word
- * `front`, or with their exact size on the heap with the word `heap`, for
+ * it against the second program. Message, area, box and receivers stand alone in
+ * memory: flush against a guard page behind them, or in front of them with the
+ * word `front`, or with their exact size on the heap with the word `heap`, for
  * memcheck.
  */
 #include "areas.h"
@@ -14,8 +14,12 @@
 #define MOST_PANELS 16
 #define MOST_WORDS (1 + 3 * MOST_PANELS)
 
+/* A TCP link for each panel that a box can have. */
+#define LINKS BOX_PANELS
+
 static struct display_box *the_box;
-static struct place box_place, bytes_place, area_place, panel_place, text_places[4];
+static struct box_receiver *receivers[LINKS];
+static struct place box_place, bytes_place, area_place, panel_place, text_places[4], receiver_places[LINKS], piece_place, packet_place;
 
 /* ---- the words of a line */
 
@@ -106,21 +110,49 @@ static void put_fields(const uint8_t *b)
 
 typedef struct box_outcome way_in(struct display_box *, size_t, const uint8_t *, size_t, uint8_t *, size_t);
 
+static void carry(way_in *take, size_t link, const uint8_t *bytes, size_t length, size_t room)
+{
+    uint8_t *area = stand_filled(&area_place, 0xA5, room);
+    struct box_outcome o = take(the_box, link, stand_copy(&bytes_place, bytes, length), length, area, room);
+    put_reply(o.answer, area, o.length, room);
+}
+
 static bool message(char **words, way_in *take)
 {
     uint32_t link, room;
     struct bytes m;
     if (!number(words[1], UINT32_MAX, &link) || !number(words[2], MOST_BYTES, &room) || !hex(words[3], &m))
         return false;
-    uint8_t *area = stand_filled(&area_place, 0xA5, room);
-    struct box_outcome o = take(the_box, link, stand_copy(&bytes_place, m.at, m.length), m.length, area, room);
-    put_reply(o.answer, area, o.length, room);
+    carry(take, link, m.at, m.length, room);
     return true;
 }
 
 static bool rs232(char **words, size_t n) { (void)n; return message(words, box_take_rs232c); }
 static bool kjw(char **words, size_t n) { (void)n; return message(words, box_take_kjw); }
 static bool tcp(char **words, size_t n) { (void)n; return message(words, box_take_tcp); }
+
+static bool piece(char **words, size_t n)
+{
+    uint32_t link, room;
+    struct bytes b;
+    (void)n;
+    if (!number(words[1], LINKS, &link) || link == 0 || !number(words[2], MOST_BYTES, &room) || !hex(words[3], &b))
+        return false;
+    const uint8_t *bytes = stand_copy(&piece_place, b.at, b.length);
+    for (size_t at = 0;;) {
+        uint8_t *packet = stand(&packet_place, BOX_PACKET_LENGTH);
+        struct box_received got = box_receive(receivers[link - 1], bytes == NULL ? NULL : bytes + at, b.length - at, packet);
+        at += got.taken;
+        if (got.length == 0)
+            break;
+        printf("packet ");
+        put_hex(packet, got.length);
+        printf("\n");
+        carry(box_take_tcp, link, packet, got.length, room);
+    }
+    printf("held %zu\n", receivers[link - 1]->held);
+    return true;
+}
 
 static bool udp(char **words, size_t n)
 {
@@ -225,6 +257,7 @@ static bool is_order(char *line)
         { "box", 1, MOST_WORDS, box }, { "rs232", 4, 4, rs232 },   { "kjw", 4, 4, kjw },
         { "tcp", 4, 4, tcp },          { "udp", 2, 2, udp },       { "show", 2, 2, show },
         { "advert", 2, 2, advert },    { "write", 17, 17, write_advert }, { "sum", 2, 2, sum },
+        { "piece", 4, 4, piece },
     };
     char *words[MOST_WORDS];
     size_t n = words_of(line, words);
@@ -259,6 +292,8 @@ int main(int argc, char **argv)
         standing = ON_THE_HEAP;
     the_box = stand(&box_place, sizeof *the_box);
     box_configure(the_box, NULL, 0);
+    for (size_t i = 0; i < LINKS; i++)
+        receivers[i] = stand_filled(&receiver_places[i], 0, sizeof *receivers[i]);
     while (read_line(line, &length)) {
         bool is_passed_over = length == 0 || line[0] == '#';
         bool is_text = length <= LONGEST_LINE && strlen(line) == length;

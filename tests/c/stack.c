@@ -22,11 +22,14 @@ static struct {
     uint8_t area[600];
     size_t room;
     struct box_panel panel;
+    struct box_receiver receiver;
+    uint8_t packet[BOX_PACKET_LENGTH];
 } given;
 
 static void take(void) { box_take(&given.box, given.way, given.link, given.bytes, given.length, given.area, given.room); }
 static void configure(void) { box_configure(&given.box, given.bytes, given.length); }
 static void show(void) { box_panel_at(&given.box, given.link, &given.panel); }
+static void receive(void) { box_receive(&given.receiver, given.bytes, given.length, given.packet); }
 static void sum(void) { box_checksum_ok(given.bytes, given.length); }
 static void read_advert(void) { box_advert_read(given.bytes, given.length); }
 
@@ -172,6 +175,44 @@ static void every_message(const struct display_box *box)
     takes_anything(box);
 }
 
+/* A receiver that claims so much, over the front of this stream or over any bits, and the rest of the stream as the piece. */
+static void receives(const uint8_t *stream, size_t length, size_t held)
+{
+    size_t cut = held < length ? held : length;
+    if (cut > sizeof given.receiver.store)
+        cut = sizeof given.receiver.store;
+    called = receive;
+    for (int turn = 0; turn < 4; turn++) {
+        randomise(&given.receiver, sizeof given.receiver);
+        given.receiver.held = held;
+        if (turn < 2)
+            memcpy(given.receiver.store, stream, cut);
+        give(stream + cut, length - cut);
+        measure(turn % 2 == 0 ? 0xA5 : 0x5A);
+    }
+}
+
+/* Packets, one cut in two, an overlong header, noise of the two bytes that a front begins with; few bytes and very many. */
+static void receives_pieces(void)
+{
+    static const size_t helds[] = { 0, 1, 6, 12, 13, 20, 30, 500, 511, 512, 513, SIZE_MAX };
+    static uint8_t streams[5][LONGEST];
+    struct message m = sdcp_packet(0, 0, "STATset VOLUME 40");
+    for (size_t i = 0; i + m.length <= LONGEST; i += m.length)
+        memcpy(streams[0] + i, m.bytes, m.length);
+    memcpy(streams[1], "\x03\x0BSONY\x00\x00\x00\xB0\x00\x01\xF3", 13);
+    memcpy(streams[2], "\x03\x0BSONY\x00\x00\x00\xB0\x00\x01\xF4", 13);
+    memset(streams[3], 0x03, LONGEST);
+    for (size_t i = 0; i < LONGEST; i++)
+        streams[4][i] = "\x03\x0B"[i % 2];
+    for (size_t s = 0; s < LENGTH_OF(streams); s++)
+        for (size_t h = 0; h < LENGTH_OF(helds); h++) {
+            receives(streams[s], 30, helds[h]);
+            receives(streams[s], BOX_PACKET_LENGTH, helds[h]);
+            receives(streams[s], LONGEST, helds[h]);
+        }
+}
+
 /* Eight panels are made; an advert is written, read and summed, whole and with a byte too many. */
 static void every_other_call(void)
 {
@@ -201,6 +242,7 @@ int main(void)
     memset(&box, 0xFF, sizeof box);
     every_message(&box);
     every_other_call();
+    receives_pieces();
     /* a measure that sees nothing would hold every call for small: a message's box is copied */
     expect(deepest > sizeof box, "the depth is seen", (long)deepest, (long)sizeof box);
     printf("%zu bytes of stack at the most\n", deepest);

@@ -1,10 +1,11 @@
 /*
- * Drives the sample host as consoles would, over pseudo-terminals; its arguments
- * are the command that starts the host. It sends frames whole, in pieces and with
- * noise, hangs up and comes back, and looks at every byte that comes back and at
- * every line of the log.
- * What is expected is written out from document 01, and not taken from the host.
- * Every wait has an end, so that a host that hangs is a failure.
+ * Drives the sample host as consoles would, over pseudo-terminals and sockets; its
+ * arguments are the command that starts the host. It sends frames and packets
+ * whole, in pieces and with noise, hangs up and comes back, and looks at every byte
+ * that comes back and at every line of the log.
+ * What is expected is written out from document 01, and of SDCP in pieces from
+ * document 02, and not taken from the host. Every wait has an end, so that a host
+ * that hangs is a failure.
  */
 #define _XOPEN_SOURCE 700
 #define _DEFAULT_SOURCE
@@ -17,6 +18,7 @@
 #include <stdlib.h>
 #include <string.h>
 #include <sys/resource.h>
+#include <sys/socket.h>
 #include <sys/wait.h>
 #include <termios.h>
 #include <time.h>
@@ -232,6 +234,14 @@ static void start(char **words)
     host_log = ends[0];
 }
 
+/* The host's line when it listens to a panel's device, or when the panel has none. */
+static void expect_listening_on(size_t panel, const char *way, const char *name)
+{
+    char line[LONGEST_LINE];
+    snprintf(line, sizeof line, "panel %zu: %s: %s%s", panel + 1, way, name == NULL ? "no device" : "listening on ", name == NULL ? "" : name);
+    expect_line(line);
+}
+
 /* The host's lines when it opens a panel's device; a console of -1 is none. */
 static void expect_listening(size_t panel, char family, int console)
 {
@@ -241,10 +251,24 @@ static void expect_listening(size_t panel, char family, int console)
         snprintf(line, sizeof line, "panel %zu: %s: %s did not take the parity", panel + 1, way, name);
         expect_line(line);
     }
-    snprintf(line, sizeof line, "panel %zu: %s: %s%s", panel + 1, way, console < 0 ? "no device" : "listening on ", console < 0 ? "" : name);
-    expect_line(line);
+    expect_listening_on(panel, way, console < 0 ? NULL : name);
     if (console >= 0)
         expect_settings(console, family);
+}
+
+/* Starts the host on these panels. */
+static void start_with(char **command, char arguments[][LONGEST_LINE], size_t count)
+{
+    char *words[64];
+    size_t used = 0;
+    while (command[used] != NULL && used < 64 - MOST_PANELS - 1) {
+        words[used] = command[used];
+        used++;
+    }
+    for (size_t i = 0; i < count; i++)
+        words[used++] = arguments[i];
+    words[used] = NULL;
+    start(words);
 }
 
 /*
@@ -255,22 +279,32 @@ static void expect_listening(size_t panel, char family, int console)
 static void start_host(char **command, const char *const *panels, size_t count, int *consoles)
 {
     static char arguments[MOST_PANELS][LONGEST_LINE];
-    char *words[64];
-    size_t used = 0;
-    while (command[used] != NULL && used < 64 - MOST_PANELS - 1) {
-        words[used] = command[used];
-        used++;
-    }
     for (size_t i = 0; i < count; i++) {
         int has_device = panels[i][strlen(panels[i]) - 1] != '-';
         consoles[i] = has_device ? open_console(i) : -1;
         snprintf(arguments[i], sizeof arguments[i], "%s%s", panels[i], has_device ? device_name(i) : "");
-        words[used++] = arguments[i];
     }
-    words[used] = NULL;
-    start(words);
+    start_with(command, arguments, count);
     for (size_t i = 0; i < count; i++)
         expect_listening(i, panels[i][0], consoles[i]);
+}
+
+/*
+ * A console's end of a new pair of sockets, and the number of the other end, which
+ * the next host is started with. As with a pseudo-terminal the host must not hold
+ * the console's end.
+ */
+static int open_socket(int *other)
+{
+    int ends[2];
+    if (socketpair(AF_UNIX, SOCK_STREAM, 0, ends) != 0 || fcntl(ends[0], F_SETFD, FD_CLOEXEC) != 0)
+        give_up("no pair of sockets");
+    /* a number that nothing else here has */
+    *other = fcntl(ends[1], F_DUPFD, 20);
+    if (*other < 0)
+        give_up("no descriptor");
+    close(ends[1]);
+    return ends[0];
 }
 
 /* Milliseconds of the processor that the hosts took which have ended. */
@@ -331,6 +365,16 @@ static long end_by(int number)
 #define POWER_NOTICE "*SNPOWR0000000000000001\n"
 #define POWER_ASKED "*SEPOWR################\n"
 #define POWER_IS_ON "*SAPOWR0000000000000001\n"
+
+/* SDCP: what every packet of these begins with, a set and a question with their replies, and the reply to a wrong envelope. */
+#define TO(group, unit) "\x03\x0BSONY" group unit
+#define OWN TO("\x00", "\x00")
+#define NO_DATA "\xB0\x00\x00\x00"
+#define VOLUME_SET(n) OWN "\x00\xB0\x00\x00\x11" "STATset VOLUME " n
+#define VOLUME_ASKED OWN "\x00\xB0\x00\x00\x0E" "STATget VOLUME"
+#define VOLUME_IS(n) OWN "\x01\xB0\x00\x00\x09" "VOLUME " n
+#define DONE OWN "\x01" NO_DATA
+#define NG OWN "\x00\xB0\x00\x00\x02\xF0\x50"
 
 /* Panel 1, RS-232C: the bench's examples, then one frame for each answer that a frame can have. */
 static void frames_rs232c(int console)
@@ -419,6 +463,67 @@ static void at_once(const int *consoles)
     expect_reply(consoles[1], BYTES(GAINS_AT_START));
     expect_reply(consoles[2], TEXT(POWER_IS_ON));
     expect_lines(lines, 3);
+}
+
+/* Panel 1, SDCP: a packet for each answer that one can have, each in one write. */
+static void packets_sdcp(int console)
+{
+    exchange(console, TEXT(VOLUME_SET("40")), TEXT(DONE), "panel 1: SDCP: carried out, 13 bytes back");
+    exchange(console, TEXT(VOLUME_ASKED), TEXT(VOLUME_IS("40")), "panel 1: SDCP: carried out, 22 bytes back");
+    exchange(console, TEXT(OWN "\x00\xB0\x00\x00\x12" "STATset VOLUME 101"), TEXT(DONE),
+             "panel 1: SDCP: contents not understood, 13 bytes back");
+    exchange(console, TEXT(OWN "\x01" NO_DATA), TEXT(NG), "panel 1: SDCP: envelope wrong, 15 bytes back");
+    /* 9/9 is no panel; no reply, as the next reply shows */
+    exchange(console, TEXT(TO("\x09", "\x09") "\x00" NO_DATA), NULL, 0, "panel 1: SDCP: not for us, 0 bytes back");
+    exchange(console, TEXT(VOLUME_ASKED), TEXT(VOLUME_IS("40")), "panel 1: SDCP: carried out, 22 bytes back");
+}
+
+/* Panel 1 again: a packet byte by byte, three in one write, one and a half, noise, and what is nearly a packet. */
+static void pieces_sdcp(int console)
+{
+    send_one_by_one(console, TEXT(VOLUME_ASKED));
+    expect_reply(console, TEXT(VOLUME_IS("40")));
+    expect_line("panel 1: SDCP: carried out, 22 bytes back");
+    exchange(console, TEXT(VOLUME_ASKED VOLUME_SET("55") VOLUME_ASKED), TEXT(VOLUME_IS("40") DONE VOLUME_IS("55")),
+             "panel 1: SDCP: carried out, 22 bytes back");
+    expect_line("panel 1: SDCP: carried out, 13 bytes back");
+    expect_line("panel 1: SDCP: carried out, 22 bytes back");
+    exchange(console, TEXT(VOLUME_ASKED OWN "\x00\xB0"), TEXT(VOLUME_IS("55")), "panel 1: SDCP: carried out, 22 bytes back");
+    exchange(console, TEXT("\x00\x00\x0E" "STATget VOLUME"), TEXT(VOLUME_IS("55")), "panel 1: SDCP: carried out, 22 bytes back");
+    exchange(console, TEXT("noise\x03\x0BSON\x03" VOLUME_ASKED), TEXT(VOLUME_IS("55")), "panel 1: SDCP: carried out, 22 bytes back");
+    exchange(console, TEXT("\x03\x0Bsony\x00\x00\x00" NO_DATA VOLUME_ASKED), TEXT(VOLUME_IS("55")), "panel 1: SDCP: carried out, 22 bytes back");
+}
+
+/* A header that says 500 bytes, its data and a packet behind it; then 499 bytes of data, which are a packet that nobody understands. */
+static void long_packets(int console)
+{
+    uint8_t bytes[13 + 500 + 27] = OWN "\x00\xB0\x00\x01\xF4";
+    memset(bytes + 13, ' ', 500);
+    memcpy(bytes + 13 + 500, VOLUME_ASKED, 27);
+    exchange(console, bytes, sizeof bytes, TEXT(NG VOLUME_IS("55")), "panel 1: SDCP: envelope wrong, 15 bytes back");
+    expect_line("panel 1: SDCP: carried out, 22 bytes back");
+    bytes[12] = 0xF3;
+    exchange(console, bytes, 13 + 499, TEXT(DONE), "panel 1: SDCP: contents not understood, 13 bytes back");
+}
+
+/*
+ * RS-232C and SDCP on one panel, which is one record: REMOTE is turned OFF by the
+ * one and asked by the other; from the SDCP of panel 2 it is turned ON by its
+ * pair. Then a frame and a packet, each in two parts, in turn.
+ */
+static void both_lines_of_a_panel(int serial, int sdcp, int other)
+{
+    exchange(sdcp, TEXT(OWN "\x00\xB0\x00\x00\x12" "STATset REMOTE OFF"), TEXT(DONE), "panel 1: SDCP: carried out, 13 bytes back");
+    exchange(serial, BYTES(REMOTE), BYTES(0x02, 0x04, 0x41, 0x01, 0x7E, 0x00, 0x3C), "panel 1: RS-232C: carried out, 7 bytes back");
+    exchange(other, TEXT(TO("\x01", "\x01") "\x00\xB0\x00\x00\x11" "STATset REMOTE ON"), TEXT(TO("\x01", "\x01") "\x01" NO_DATA),
+             "panel 2: SDCP: carried out, 13 bytes back");
+    send_bytes(serial, BYTES(0x02, 0x03, 0x01));
+    send_bytes(sdcp, TEXT(OWN "\x00\xB0\x00"));
+    pause_ms(50);
+    exchange(serial, BYTES(0x41, 0x6E, 0x4D), BYTES(REMOTE_REPLY), "panel 1: RS-232C: carried out, 7 bytes back");
+    exchange(sdcp, TEXT("\x00\x0E" "STATget VOLUME"), TEXT(VOLUME_IS("55")), "panel 1: SDCP: carried out, 22 bytes back");
+    /* the other panel's own volume is that of the start */
+    exchange(other, TEXT(VOLUME_ASKED), TEXT(VOLUME_IS("30")), "panel 2: SDCP: carried out, 22 bytes back");
 }
 
 /* ---- the runs of the host */
@@ -544,6 +649,72 @@ static void run_with_a_console_that_does_not_read(char **command)
     close(consoles[1]);
 }
 
+/*
+ * SDCP beside RS-232C: panel 1 has a terminal for it, and panel 2 a socket that
+ * the host was started with. Both hang up inside a packet. The terminal comes
+ * back, and the half packet is forgotten; the socket does not.
+ */
+static void run_with_sdcp(char **command)
+{
+    char arguments[2][LONGEST_LINE], name[LONGEST_LINE];
+    int other, serial = open_console(0), sdcp = open_console(1), socket = open_socket(&other);
+    snprintf(name, sizeof name, "@%d", other);
+    snprintf(arguments[0], sizeof arguments[0], "W,1,1,%s,%s", device_name(0), device_name(1));
+    snprintf(arguments[1], sizeof arguments[1], "W,1,2,-,%.20s", name);
+    start_with(command, arguments, 2);
+    close(other);
+    expect_listening(0, 'W', serial);
+    expect_listening_on(0, "SDCP", device_name(1));
+    expect_settings(sdcp, 'K');
+    expect_listening_on(1, "RS-232C", NULL);
+    expect_listening_on(1, "SDCP", name);
+    packets_sdcp(sdcp);
+    pieces_sdcp(sdcp);
+    long_packets(sdcp);
+    both_lines_of_a_panel(serial, sdcp, socket);
+    expect_quiet(serial);
+    expect_quiet(sdcp);
+    expect_quiet(socket);
+    send_bytes(sdcp, TEXT(OWN "\x00\xB0\x00\x00\x11" "STATset"));
+    send_bytes(socket, TEXT(OWN "\x00\xB0\x00\x00\x11" "STATset"));
+    pause_ms(200);
+    hang_up(1, sdcp, "panel 1: SDCP: hung up");
+    close(socket);
+    expect_line("panel 2: SDCP: hung up");
+    exchange(serial, BYTES(REMOTE), BYTES(REMOTE_REPLY), "panel 1: RS-232C: carried out, 7 bytes back");
+    sdcp = open_console(1);
+    expect_listening_on(0, "SDCP", device_name(1));
+    exchange(sdcp, TEXT(VOLUME_ASKED), TEXT(VOLUME_IS("55")), "panel 1: SDCP: carried out, 22 bytes back");
+    end_by(SIGTERM);
+    close(serial);
+    close(sdcp);
+}
+
+/* A socket alone: once it hung up there is no device left, and the host ends. */
+static void run_to_the_end_of_a_socket(char **command)
+{
+    char arguments[1][LONGEST_LINE], name[20];
+    int other, socket = open_socket(&other);
+    snprintf(name, sizeof name, "@%d", other);
+    snprintf(arguments[0], sizeof arguments[0], "W,1,1,-,%s", name);
+    start_with(command, arguments, 1);
+    close(other);
+    expect_listening_on(0, "RS-232C", NULL);
+    expect_listening_on(0, "SDCP", name);
+    exchange(socket, TEXT(VOLUME_ASKED VOLUME_SET("4")), TEXT(VOLUME_IS("30")), "panel 1: SDCP: carried out, 22 bytes back");
+    /* the set's length is 17 and it has 16 bytes: the digit that is missing */
+    exchange(socket, TEXT("1"), TEXT(DONE), "panel 1: SDCP: carried out, 13 bytes back");
+    /* a console that is gone before its reply is no end of the host, but of its socket */
+    kill(-host, SIGSTOP);
+    send_bytes(socket, TEXT(VOLUME_ASKED));
+    close(socket);
+    kill(-host, SIGCONT);
+    expect_line("panel 1: SDCP: carried out, 22 bytes not taken");
+    expect_line("panel 1: SDCP: left, for it does not take its replies");
+    expect_line("no panel has a device");
+    expect_end();
+}
+
 int main(int argc, char **argv)
 {
     if (argc < 2) {
@@ -554,6 +725,8 @@ int main(int argc, char **argv)
     run_to_a_signal(argv + 1, SIGINT);
     run_while_a_device_is_away(argv + 1, run_to_a_signal(argv + 1, SIGTERM));
     run_with_a_console_that_does_not_read(argv + 1);
+    run_with_sdcp(argv + 1);
+    run_to_the_end_of_a_socket(argv + 1);
     printf("%lu replies, lines and ends checked, %lu wrong\n", asked, wrong);
     return wrong == 0 ? 0 : 1;
 }

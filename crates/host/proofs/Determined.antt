@@ -1,5 +1,5 @@
 -- Each promise to the C host allows one outcome: its equations have the same right sides.
-use mathlib.Core.Path.{_≡_, sym, _∙_}
+use mathlib.Core.Path.{_≡_, sym, ap, _∙_}
 use mathlib.Core.Bool.{Bool}
 use mathlib.Core.List.{List}
 use Prim.Native.Nat.{ℕ}
@@ -10,9 +10,14 @@ use Rattle.sdap.specs.declared.Advert.{Advert}
 use Rattle.configure.specs.Configure.{configured}
 use Rattle.panels.specs.declared.Panel.{Panel}
 use Rattle.panels.specs.declared.DisplayBox.{DisplayBox}
+use Rattle.receiver.specs.declared.Receiver.{Receiver}
+use Rattle.receiver.specs.declared.Received.{Received}
+use Rattle.receiver.specs.Calls.{Given, Receives}
+use Rattle.receiver.proofs.Determined.{take-piece-one}
 use Rattle.host_box.specs.Called.{Called, panelBehind}
 use Rattle.host.specs.declared.Outcome.{Outcome}
-use Rattle.host.specs.Calls.{WrittenForC, outcomeForC}
+use Rattle.host.specs.declared.Handed.{Handed}
+use Rattle.host.specs.Calls.{WrittenForC, outcomeForC, receivedOf}
 
 pub box-checksum-ok-one : (area : List ℕ) (r r′ : Bool) → r ≡ sumsToZero area → r′ ≡ sumsToZero area → r ≡ r′
 box-checksum-ok-one area r r′ p q = p ∙ sym q
@@ -31,3 +36,8 @@ box-take-one c b b′ r r′ x x′ p q = (p .0 ∙ sym (q .0), (p .1 .0 ∙ sym
 
 pub box-panel-at-one : (b : DisplayBox) (link : ℕ) (p p′ : Panel) → p ≡ panelBehind b link → p′ ≡ panelBehind b link → p ≡ p′
 box-panel-at-one b link p p′ e f = e ∙ sym f
+
+pub box-receive-one : (g : Given) (area : List ℕ) (r r′ : Receiver) (h h′ : Handed) (x x′ : List ℕ) → Receives g area (receivedOf r h) x → Receives g area (receivedOf r′ h′) x′ → (r ≡ r′) × ((h ≡ h′) × (x ≡ x′))
+box-receive-one g area r r′ h h′ x x′ p q =
+    let o = take-piece-one g area (receivedOf r h) (receivedOf r′ h′) x x′ p q in
+    (ap (λ (t : Received). t .after) (o .0), (ap (λ (t : Received). record { taken = t .taken; len = t .len }) (o .0), o .1))

@@ -4,6 +4,8 @@ use host_box::panel_behind;
 use host_box::take_message;
 use panels::DisplayBox;
 use panels::Panel;
+use receiver::Receiver;
+use receiver::take_piece;
 use sdap_read::read_answer;
 use sdap_write::write_advert;
 use sums::sums_to_zero;
@@ -15,8 +17,9 @@ ghost use Rattle.terms.specs.Answers.{numberOf};
 ghost use Rattle.sums.specs.Sums.{sumsToZero};
 ghost use Rattle.sdap.specs.Rules.{readAnswer};
 ghost use Rattle.configure.specs.Configure.{configured};
+ghost use Rattle.receiver.specs.Calls.{given, Receives};
 ghost use Rattle.host_box.specs.Called.{called, panelBehind};
-ghost use Rattle.host.specs.Calls.{WrittenForC, fieldsFromC, outcomeForC};
+ghost use Rattle.host.specs.Calls.{WrittenForC, fieldsFromC, outcomeForC, receivedOf};
 
 // What the host is told of a message: the answer's number, and the reply's length.
 #[repr(C)]
@@ -66,6 +69,26 @@ pub extern "C" fn box_panel_at(b: &DisplayBox, link: usize, panel: &mut Panel)
 {
     let p = panel_behind(*b, link);
     *panel = p;
+}
+
+// What the host is told of a piece: how many of its bytes were taken, and the length of what is handed out, 0 for nothing.
+#[repr(C)]
+pub struct Handed {
+    pub taken: usize,
+    pub len: usize,
+}
+
+// A piece to the host's receiver. "The receiver's record is lent by the caller and updated there."
+#[no_mangle]
+pub extern "C" fn box_receive(r: &mut Receiver, piece: &[u8], packet: &mut [u8; 512]) -> Handed
+    ensures { λ h. ⌜ Receives (given (now (r .entry)) (now (piece .entry))) (now (packet .entry)) (receivedOf (now (r .exit)) h) (now (packet .exit)) ⌝ }
+{
+    let t = take_piece(*r, piece, packet);
+    *r = t.after;
+    Handed {
+        taken: t.taken,
+        len: t.len,
+    }
 }
 
 // The checksum test.

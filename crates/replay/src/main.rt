@@ -12,7 +12,7 @@ ghost use Rattle.script_run.specs.Calls.{Reached};
 
 // A piece of the script is run to its end, and its text is written each time that the area has no more room.
 fn take_piece(p: Progress, piece: &[u8], store: &mut [u8; STORE], area: &mut [u8]) -> Progress
-    requires { ⌜ ((bytes : List ℕ) × Reached bytes (p .held) (now store) (p .kept)) × (4096 ≤ length (now area)) ⌝ }
+    requires { ⌜ ((bytes : List ℕ) × Reached bytes (p .held) (now store) (p .kept)) × (24576 ≤ length (now area)) ⌝ }
     ensures { λ r. ⌜ ((bytes : List ℕ) → Reached bytes (p .held) (now (store .entry)) (p .kept) → Reached (bytes ++ now (piece .entry)) (r .held) (now (store .exit)) (r .kept)) ⌝ }
 {
     let mut q = p;

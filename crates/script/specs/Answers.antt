@@ -1,38 +1,56 @@
--- docs/SCRIPTS.md, "Orders": what a line does to the box, and what it writes.
-use Prim.Native.Nat.{ℕ}
+-- docs/SCRIPTS.md: what a script holds, and what a line does to it and writes.
+use Prim.Native.Nat.{ℕ, _-_}
+use mathlib.Core.Path.{_≡_}
 use mathlib.Core.List.{List, []}
-use Rattle.laws.specs.Bytes.{ascii}
-use Rattle.configure.specs.Configure.{configured}
-use Rattle.panels.specs.declared.DisplayBox.{DisplayBox}
-use Rattle.steps.specs.Messages.{udp}
-use Rattle.steps.specs.Step.{step}
-use Rattle.sdap.specs.Rules.{readOf}
-use Rattle.script_words.specs.Words.{numberAt, bytesAt}
-use Rattle.script_words.specs.Kinds.{mostN, mostArea}
-use Rattle.script_boxes.specs.Boxes.{configurationOf}
+use lib.ListN.{getD, set, replicate}
+use Rattle.panels.specs.Records.{noBox}
+use Rattle.receiver.specs.declared.Receiver.{Receiver}
+use Rattle.receiver.specs.Calls.{holding}
+use Rattle.script_words.specs.Words.{numberAt}
+use Rattle.script_words.specs.Kinds.{mostLink}
 use Rattle.script_lines.specs.Orders.{orderOf}
 use Rattle.script_lines.specs.declared.Order.{Order}
-use Rattle.script_lines.specs.declared.Order.the-variants.{Passed, Unread, Box, Rs232, Kjw, Tcp, Udp, Show, Advert, Write, Sum}
-use Rattle.script_write.specs.Wanted.{wanted}
-use Rattle.script_answers.specs.Answers.{Effect, writes, filler}
-use Rattle.script_bytes.specs.Bytes.{readText, wrote, summed}
-use Rattle.script_panels.specs.Panels.{boxed, shownAt}
-use Rattle.script_messages.specs.Messages.{messaged, spread}
-use Rattle.addresses.specs.declared.Line.the-variants as lines
+use Rattle.script_lines.specs.declared.Order.the-variants.{OnBox, Piece}
+use Rattle.script_text.specs.Puts.{Puts}
+use Rattle.script_answers.specs.Answers.{Effect}
+use Rattle.script_receivers.specs.Receivers.{LinkEffect, piecedBy}
+use Rattle.script_orders.specs.Orders.{ordered}
+use Rattle.script.specs.declared.Held.{Held}
+use Rattle.script.specs.declared.Left.{Left}
+
+-- "A script starts with a box of no panels", and with "empty receivers"
+unfoldable pub atStart : Held
+atStart = record { made = noBox; receivers = replicate mostLink (holding []) }
+
+-- what is held after a line, and the text that the line writes
+pub record LineEffect : Type 0 where
+  pub held : Held
+  pub text : List ℕ
+
+-- an order on the box leaves the receivers: "`box` leaves them"
+unfoldable pub onBox : Held → Effect → LineEffect
+onBox s o = record { held = record { made = o .box; receivers = s .receivers }; text = o .text }
+
+-- "the receiver of TCP link LINK (1 to 8)": link less 1 is its place
+abbrev pub placeIn : List ℕ → ℕ
+placeIn line = numberAt mostLink 1 line - 1
+
+abbrev pub receiverAt : ℕ → Held → Receiver
+receiverAt i s = getD (s .receivers) i (record { held = 0; store = [] })
+
+-- a piece goes to that receiver alone
+unfoldable pub onLink : ℕ → Held → LinkEffect → LineEffect
+onLink i s o = record { held = record { made = o .box; receivers = set (s .receivers) i (o .receiver) }; text = o .text }
 
 -- what each order does and writes
-unfoldable pub ordered : Order → DisplayBox → List ℕ → Effect
-ordered Passed b line = record { box = b; text = [] }
-ordered Unread b line = writes b (ascii "unread")
-ordered Box b line = boxed (configured (configurationOf line))
-ordered Rs232 b line = messaged lines.Rs232c b line
-ordered Kjw b line = messaged lines.Kjw b line
-ordered Tcp b line = messaged lines.Tcp b line
-ordered Udp b line = spread (step b (udp (bytesAt 1 line)))
-ordered Show b line = writes b (shownAt b (numberAt mostN 1 line))
-ordered Advert b line = writes b (readText (readOf (bytesAt 1 line)))
-ordered Write b line = writes b (wrote (wanted line) (filler (numberAt mostArea 1 line)))
-ordered Sum b line = writes b (summed (bytesAt 1 line))
+unfoldable pub carriedOut : Order → Held → List ℕ → LineEffect
+carriedOut (OnBox o) s line = onBox s (ordered o (s .made) line)
+carriedOut Piece s line = onLink (placeIn line) s (piecedBy (s .made) (receiverAt (placeIn line) s) line)
 
-unfoldable pub answered : DisplayBox → List ℕ → Effect
-answered b line = ordered (orderOf line) b line
+unfoldable pub answered : Held → List ℕ → LineEffect
+answered s line = carriedOut (orderOf line) s line
+
+-- the promise: what is held after the line, and its text at the front of the area, cut off where the area ends
+pub record Leaves (o : LineEffect) (r : Left) (area area′ : List ℕ) : Type 0 where
+  pub held-is : r .after ≡ o .held
+  pub text-is : Puts (o .text) area 0 area′ (r .len)

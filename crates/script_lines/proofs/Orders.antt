@@ -12,9 +12,10 @@ use Rattle.laws.proofs.Lists.{behind, from, same-is}
 use Rattle.laws.proofs.Table.{and-left, and-right, below, sure}
 use Rattle.script_lines.specs.Orders.{Row, asks, orderIn, orderRows}
 use Rattle.script_words.specs.Words.{before, wordAt}
-use Rattle.script_words.specs.Kinds.{Kind, aHex, aFamily, aNumber}
+use Rattle.script_words.specs.Kinds.{Kind, aHex, aFamily, aLink, aNumber}
 use Rattle.script_words.specs.KindNumbers.{kindOf}
-use Rattle.script_lines.specs.declared.Order.the-variants.{Passed, Unread}
+use Rattle.script_lines.specs.declared.Order.the-variants.{OnBox}
+use Rattle.script_lines.specs.declared.BoxOrder.the-variants.{Passed, Unread}
 use Rattle.script_words.proofs.Words.{before-take, word-here}
 
 pub first-word : (line : List ℕ) → take (length (before 0x20 line)) line ≡ wordAt 0 line
@@ -26,7 +27,7 @@ abbrev pub many : ℕ
 many = length orderRows
 
 abbrev none : Row
-none = record { word = []; kinds = []; order = Passed }
+none = record { word = []; kinds = []; order = OnBox Passed }
 
 abbrev pub rowAt : ℕ → Row
 rowAt i = getD orderRows i none
@@ -35,6 +36,7 @@ rowAt i = getD orderRows i none
 abbrev kindNumber : Kind → ℕ
 kindNumber aHex = 0
 kindNumber aFamily = 1
+kindNumber aLink = 2
 kindNumber (aNumber most) = most
 
 abbrev numbers : Row → List ℕ
@@ -112,7 +114,7 @@ pub kinds-held : (i : ℕ) → i < many → Held kindTable kindEnds i (numbers (
 unfolding held rising right
 kinds-held = law kindTable kindEnds numbers tt
 
-pub order-held : (i : ℕ) → getD (map (λ (r : Row). r .order) orderRows) i Passed ≡ rowAt i .order
+pub order-held : (i : ℕ) → getD (map (λ (r : Row). r .order) orderRows) i (OnBox Passed) ≡ rowAt i .order
 order-held i = List·getD-map (λ (r : Row). r .order) orderRows i none
 
 -- what is asked of the parts is asked of the row
@@ -132,6 +134,6 @@ pub not-asked : (line : List ℕ) (i : ℕ) → i < many → asks (rowAt i .word
 unfolding orderIn
 not-asked line i h e = ap (λ (rs : List Row). orderIn rs line) (from orderRows i none h) ∙ rw e
 
-pub none-asked : (line : List ℕ) (i : ℕ) → many ≤ i → orderIn (drop i orderRows) line ≡ Unread
+pub none-asked : (line : List ℕ) (i : ℕ) → many ≤ i → orderIn (drop i orderRows) line ≡ OnBox Unread
 unfolding orderIn
 none-asked line i h = ap (λ (rs : List Row). orderIn rs line) (behind orderRows i h)

@@ -8,8 +8,9 @@ use lib.ListN.{length, getD, drop}
 use Rattle.laws.specs.Bytes.{ascii, same}
 use Rattle.script_words.specs.Words.{wordsIn, wordAt}
 use Rattle.script_lines.specs.declared.Order.{Order}
-use Rattle.script_lines.specs.declared.Order.the-variants.{Passed, Unread, Box, Rs232, Kjw, Tcp, Udp, Show, Advert, Write, Sum}
-use Rattle.script_words.specs.Kinds.{Kind, aHex, aFamily, aNumber, mostN, mostArea, shaped}
+use Rattle.script_lines.specs.declared.Order.the-variants.{OnBox, Piece}
+use Rattle.script_lines.specs.declared.BoxOrder.the-variants.{Passed, Unread, Box, Rs232, Kjw, Tcp, Udp, Show, Advert, Write, Sum}
+use Rattle.script_words.specs.Kinds.{Kind, aHex, aFamily, aLink, aNumber, mostN, mostArea, shaped}
 use Rattle.script_boxes.specs.Boxes.{panelsIn}
 
 -- the order's word, and behind it a word of each kind
@@ -56,18 +57,19 @@ writeKinds =
 
 abbrev pub orderRows : List Row
 orderRows =
-    row "rs232" messageKinds Rs232 ∷
-    row "kjw" messageKinds Kjw ∷
-    row "tcp" messageKinds Tcp ∷
-    row "udp" (aHex ∷ []) Udp ∷
-    row "show" (anyN ∷ []) Show ∷
-    row "advert" (aHex ∷ []) Advert ∷
-    row "write" writeKinds Write ∷
-    row "sum" (aHex ∷ []) Sum ∷ []
+    row "rs232" messageKinds (OnBox Rs232) ∷
+    row "kjw" messageKinds (OnBox Kjw) ∷
+    row "tcp" messageKinds (OnBox Tcp) ∷
+    row "udp" (aHex ∷ []) (OnBox Udp) ∷
+    row "show" (anyN ∷ []) (OnBox Show) ∷
+    row "advert" (aHex ∷ []) (OnBox Advert) ∷
+    row "write" writeKinds (OnBox Write) ∷
+    row "sum" (aHex ∷ []) (OnBox Sum) ∷
+    row "piece" (aLink ∷ anArea ∷ aHex ∷ []) Piece ∷ []
 
 -- "Any other line is answered `unread`"
 unfoldable pub orderIn : List Row → List ℕ → Order
-orderIn [] line = Unread
+orderIn [] line = OnBox Unread
 orderIn (r ∷ rs) line = cond (asks (r .word) (r .kinds) line) (r .order) (orderIn rs line)
 
 -- "An empty line, and a line that begins with `#` (however long), is passed over and writes nothing."
@@ -77,7 +79,7 @@ isPassedOver line = eqb (length line) 0 || eqb (getD line 0 0) 0x23
 -- "A line holds at most 4,096 bytes before its end."
 unfoldable pub orderOf : List ℕ → Order
 orderOf line =
-    cond (isPassedOver line) Passed
-    (cond (ltb 4096 (length line)) Unread
-    (cond (asksBox line) Box
+    cond (isPassedOver line) (OnBox Passed)
+    (cond (ltb 4096 (length line)) (OnBox Unread)
+    (cond (asksBox line) (OnBox Box)
     (orderIn orderRows line)))

@@ -10,11 +10,12 @@ use script_words::ANY;
 use script_words::AREA;
 use script_words::FAMILY;
 use script_words::HEX;
+use script_words::LINK;
 use script_words::are_shaped;
 use script_words::length_before;
 
-// The orders of a script. A line that is passed over and one that is no order count among them.
-pub enum Order {
+// The orders on the box alone. A line that is passed over and one that is no order count among them.
+pub enum BoxOrder {
     Passed,
     Unread,
     Box,
@@ -26,6 +27,12 @@ pub enum Order {
     Advert,
     Write,
     Sum,
+}
+
+// The orders of a script: on the box alone, or a piece for a receiver.
+pub enum Order {
+    OnBox(BoxOrder),
+    Piece,
 }
 
 // The words of sixteen panels.
@@ -82,30 +89,32 @@ const PANELS: [u32; 48] = [
 
 // The rows of the other orders: a row is a word, the kinds of the words behind it, and the order that it is. The words stand one
 // behind the other, and so do the kinds.
-const ORDERS: [Order; 8] = [
-    Order::Rs232,
-    Order::Kjw,
-    Order::Tcp,
-    Order::Udp,
-    Order::Show,
-    Order::Advert,
-    Order::Write,
-    Order::Sum,
+const ORDERS: [Order; 9] = [
+    Order::OnBox(BoxOrder::Rs232),
+    Order::OnBox(BoxOrder::Kjw),
+    Order::OnBox(BoxOrder::Tcp),
+    Order::OnBox(BoxOrder::Udp),
+    Order::OnBox(BoxOrder::Show),
+    Order::OnBox(BoxOrder::Advert),
+    Order::OnBox(BoxOrder::Write),
+    Order::OnBox(BoxOrder::Sum),
+    Order::Piece,
 ];
 
-const WORDS: [u8; 32] = *b"rs232\
+const WORDS: [u8; 37] = *b"rs232\
     kjw\
     tcp\
     udp\
     show\
     advert\
     write\
-    sum";
+    sum\
+    piece";
 
 // Where each word ends, behind a 0 where the first begins.
-const WORD_ENDS: [usize; 9] = [0, 5, 8, 11, 14, 18, 24, 29, 32];
+const WORD_ENDS: [usize; 10] = [0, 5, 8, 11, 14, 18, 24, 29, 32, 37];
 
-const KINDS: [u32; 29] = [
+const KINDS: [u32; 32] = [
     ANY, // rs232: LINK
     AREA,
     HEX,
@@ -135,10 +144,13 @@ const KINDS: [u32; 29] = [
     255, // GROUP
     255, // UNIT
     HEX, // sum
+    LINK, // piece
+    AREA,
+    HEX,
 ];
 
 // The same for the kinds.
-const KIND_ENDS: [usize; 9] = [0, 3, 6, 9, 10, 11, 12, 28, 29];
+const KIND_ENDS: [usize; 10] = [0, 3, 6, 9, 10, 11, 12, 28, 29, 32];
 
 // Whether a line is the order of that word, with a word of each kind behind it.
 fn is_asked(line: &[u8], word: &[u8], kinds: &[u32]) -> bool
@@ -181,7 +193,7 @@ fn order_in(line: &[u8]) -> Order
     let kind_ends = KIND_ENDS;
     let orders = ORDERS;
     let mut i = 0;
-    while i < 8 {
+    while i < 9 {
         let a = word_ends[i];
         let b = word_ends[i + 1];
         let c = kind_ends[i];
@@ -191,7 +203,7 @@ fn order_in(line: &[u8]) -> Order
         }
         i += 1;
     }
-    Order::Unread
+    Order::OnBox(BoxOrder::Unread)
 }
 
 fn is_passed_over(line: &[u8]) -> bool
@@ -208,13 +220,13 @@ pub fn order_of(line: &[u8]) -> Order
     ensures { λ r. ⌜ r ≡ orderOf (now (line .entry)) ⌝ }
 {
     if is_passed_over(line) {
-        return Order::Passed;
+        return Order::OnBox(BoxOrder::Passed);
     }
     if 4096 < line.len() {
-        return Order::Unread;
+        return Order::OnBox(BoxOrder::Unread);
     }
     if is_box(line) {
-        return Order::Box;
+        return Order::OnBox(BoxOrder::Box);
     }
     order_in(line)
 }

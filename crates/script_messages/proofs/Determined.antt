@@ -8,8 +8,12 @@ use Rattle.script_words.specs.Words.{bytesAt}
 use Rattle.script_answers.specs.Answers.{Answers}
 use Rattle.script_answers.specs.declared.Answered.{Answered}
 use Rattle.script_answers.proofs.Determined.{Agree, answers-one}
-use Rattle.script_messages.specs.Messages.{messaged, spread}
+use Rattle.script_messages.specs.Messages.{stepped, messaged, spread}
 use Rattle.addresses.specs.declared.Line.{Line}
+use Rattle.ways_in.specs.Promise.{messageOf}
+
+pub carry-one : (by : Line) (b : DisplayBox) (link : ℕ) (m lent area : List ℕ) (r r′ : Answered) (x x′ : List ℕ) → Answers (stepped (step b (messageOf by link m lent))) r area x → Answers (stepped (step b (messageOf by link m lent))) r′ area x′ → Agree r r′ x x′
+carry-one by b link m lent = answers-one (stepped (step b (messageOf by link m lent)))
 
 module _ (b : DisplayBox) (line area : List ℕ) (r r′ : Answered) (x x′ : List ℕ) where
   pub answer-udp-one : Answers (spread (step b (udp (bytesAt 1 line)))) r area x → Answers (spread (step b (udp (bytesAt 1 line)))) r′ area x′ → Agree r r′ x x′

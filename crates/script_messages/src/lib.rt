@@ -18,8 +18,8 @@ ghost use Rattle.script_words.specs.Words.{bytesAt};
 ghost use Rattle.script_answers.specs.Answers.{Answers};
 ghost use Rattle.script_messages.specs.Messages.{stepped, messaged, spread};
 
-// The message with its area, and what went back.
-fn carry(
+// A message with its area, and what went back.
+pub fn carry(
     line: Line,
     b: DisplayBox,
     link: usize,

@@ -1,4 +1,4 @@
--- No line writes more than there is room for: a number has at most ten digits, a name with its value twenty bytes, a reply 48.
+-- No order on the box alone writes more than there is room for: a number has at most ten digits, a name with its value twenty bytes, a reply 48.
 use Prim.Native.Nat.{ℕ, zero, suc, _+_, _*_, _-_, _^_, _≤_}
 use mathlib.Core.Path.{_≡_, refl, ap}
 use mathlib.Core.Bool.{Bool, cond}
@@ -61,9 +61,8 @@ use Rattle.sdap.specs.declared.Read.{Read}
 use Rattle.script_words.specs.Words.{numberAt, bytesAt}
 use Rattle.script_words.specs.Kinds.{mostN, mostArea}
 use Rattle.script_boxes.specs.Boxes.{configurationOf}
-use Rattle.script_lines.specs.Orders.{orderOf}
-use Rattle.script_lines.specs.declared.Order.{Order}
-use Rattle.script_lines.specs.declared.Order.the-variants.{Passed, Unread, Box, Rs232, Kjw, Tcp, Udp, Show, Advert, Write, Sum}
+use Rattle.script_lines.specs.declared.BoxOrder.{BoxOrder}
+use Rattle.script_lines.specs.declared.BoxOrder.the-variants.{Passed, Unread, Box, Rs232, Kjw, Tcp, Udp, Show, Advert, Write, Sum}
 use Rattle.script_text.specs.Texts.{pairs, hexText, numberText, bytesText, signedText, spoiledBy, replyText}
 use Rattle.script_show.specs.Shown.{shownNames, settingsText, wText, panelText}
 use Rattle.script_parts.specs.Parts.{onText, inputsText, sceneText, inputText, mutesText, kText}
@@ -74,7 +73,7 @@ use Rattle.script_answers.specs.Answers.{writes, filler, answerText, replied}
 use Rattle.script_bytes.specs.Bytes.{readText, filled, wrote, summed}
 use Rattle.script_panels.specs.Panels.{boxed, isThere, shownAt}
 use Rattle.script_messages.specs.Messages.{stepped, messaged, spread}
-use Rattle.script.specs.Answers.{ordered, answered}
+use Rattle.script_orders.specs.Orders.{ordered}
 use Rattle.addresses.specs.declared.Line.{Line}
 use Rattle.addresses.specs.declared.Line.the-variants as lines
 use Rattle.ways_in.specs.Promise.{messageOf}
@@ -101,7 +100,7 @@ plain-fits v =
     let w = width-most 9 1 v in
     omega (arith, l, w)
 
-said-fits : (word : List ℕ) (v : ℕ) → length (numberText word v) ≤ length word + 10
+pub said-fits : (word : List ℕ) (v : ℕ) → length (numberText word v) ≤ length word + 10
 unfolding numberText
 said-fits word v = let p = plain-fits v in let l = length-append word (plain v) in omega (arith, l, p)
 
@@ -115,7 +114,7 @@ unfolding hexText
 hex-fits [] = omega arith
 hex-fits (b ∷ l) = let r = pairs-length (b ∷ l) in omega (arith, r)
 
-told-fits : (word bytes : List ℕ) → length (bytesText word bytes) ≤ length word + (2 * length bytes + 1)
+pub told-fits : (word bytes : List ℕ) → length (bytesText word bytes) ≤ length word + (2 * length bytes + 1)
 unfolding bytesText
 told-fits word bytes = let h = hex-fits bytes in let l = length-append word (hexText bytes) in omega (arith, l, h)
 
@@ -134,14 +133,17 @@ spoiled-fits : (rest : List ℕ) → length (spoiledBy rest) ≤ 8
 unfolding spoiledBy
 spoiled-fits rest = either (every (eqb 0xa5) rest) [] (ascii " spoiled") 8 (omega arith) (omega arith)
 
-replied-fits : (a : Answer) (n : ℕ) (area : List ℕ) → n ≤ 122 → length (replied a n area) ≤ 1000
+pub replied-short : (a : Answer) (n : ℕ) (area : List ℕ) → length (replied a n area) ≤ 2 * n + 33
 unfolding replied replyText
-replied-fits a n area h =
+replied-short a n area =
     let x = said-fits (ascii "answer ") (numberOf a) in
     let y = told-fits (ascii " reply ") (take n area) in
     let t = taken-fits n area in
     let z = spoiled-fits (drop n area) in
-    simp length-append (omega (arith, x, y, t, z, h))
+    simp length-append (omega (arith, x, y, t, z))
+
+replied-fits : (a : Answer) (n : ℕ) (area : List ℕ) → n ≤ 122 → length (replied a n area) ≤ 1000
+replied-fits a n area h = let s = replied-short a n area in omega (arith, s, h)
 
 -- ---- a panel's record
 
@@ -408,7 +410,8 @@ message-fits by b line =
     let r = replied-fits (o .answer) (o .back .len) (o .back .area) (omega (arith, n)) in
     writes-fit (o .box) (replied (o .answer) (o .back .len) (o .back .area)) (omega (arith, r))
 
-order-fits : (o : Order) (b : DisplayBox) (line : List ℕ) → length (ordered o b line .text) ≤ room
+-- of the orders on the box alone
+pub order-fits : (o : BoxOrder) (b : DisplayBox) (line : List ℕ) → length (ordered o b line .text) ≤ room
 unfolding ordered boxed spread summed
 order-fits Passed b line = omega arith
 order-fits Unread b line = writes-fit b (ascii "unread") (omega arith)
@@ -425,8 +428,3 @@ order-fits Write b line =
 order-fits Sum b line =
     let s = either (sumsToZero (bytesAt 1 line)) (ascii "yes") (ascii "no") 1500 (omega arith) (omega arith) in
     writes-fit b (summed (bytesAt 1 line)) s
-
--- so the program's area of 4,096 bytes cuts nothing off
-pub text-fits : (b : DisplayBox) (line : List ℕ) → length (answered b line .text) ≤ room
-unfolding answered
-text-fits b line = order-fits (orderOf line) b line

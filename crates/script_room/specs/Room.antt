@@ -3,4 +3,4 @@ use Prim.Native.Nat.{ℕ}
 
 -- the bytes of that area
 abbrev pub room : ℕ
-room = 4096
+room = 24576

@@ -9,8 +9,8 @@ use lib.Dec.{eqb, leb}
 use lib.ListN.{length, take, length-append, length-take}
 use lib.Seq.{take-all, take-at, take-append-le, take-suc-set, length-take-le}
 use borrow.Author.Tests.{leb-true, leb-false}
-use Rattle.panels.specs.declared.DisplayBox.{DisplayBox}
-use Rattle.script_answers.specs.Answers.{Effect}
+use Rattle.script.specs.declared.Held.{Held}
+use Rattle.script.specs.Answers.{LineEffect}
 use Rattle.script_text.specs.Puts.{written, behind, Puts}
 use Rattle.script_text.proofs.Puts.{puts-one, puts-byte, puts-outside, puts-length}
 use Rattle.script.specs.Answers.{answered}
@@ -43,7 +43,7 @@ take-front n a c =
 
 -- s is as s₀, with a text before it, as far as an answer can tell
 pub record Alike (t : List ℕ) (s s₀ : SoFar) : Type 0 where
-  pub box-same : s .box ≡ s₀ .box
+  pub held-same : s .held ≡ s₀ .held
   pub text-joined : s .text ≡ t ++ s₀ .text
   pub begun-alike : take 4097 (s .begun) ≡ take 4097 (s₀ .begun)
 
@@ -51,19 +51,19 @@ alike-byte : (t : List ℕ) (s s₀ : SoFar) (x : ℕ) → Alike t s s₀ → Al
 unfolding byteMore
 alike-byte t s s₀ x a = go (eqb x 0x0a)
   where
-    same : answered (s .box) (s .begun) ≡ answered (s₀ .box) (s₀ .begun)
-    same = ap (λ (b : DisplayBox). answered b (s .begun)) (a .box-same) ∙ alike-answered (s₀ .box) (s .begun) (s₀ .begun) (a .begun-alike)
+    same : answered (s .held) (s .begun) ≡ answered (s₀ .held) (s₀ .begun)
+    same = ap (λ (b : Held). answered b (s .begun)) (a .held-same) ∙ alike-answered (s₀ .held) (s .begun) (s₀ .begun) (a .begun-alike)
 
     go : (c : Bool) → Alike t
-        (cond c (record { box = answered (s .box) (s .begun) .box; text = s .text ++ answered (s .box) (s .begun) .text; begun = [] }) (record { box = s .box; text = s .text; begun = s .begun ++ (x ∷ []) }))
-        (cond c (record { box = answered (s₀ .box) (s₀ .begun) .box; text = s₀ .text ++ answered (s₀ .box) (s₀ .begun) .text; begun = [] }) (record { box = s₀ .box; text = s₀ .text; begun = s₀ .begun ++ (x ∷ []) }))
+        (cond c (record { held = answered (s .held) (s .begun) .held; text = s .text ++ answered (s .held) (s .begun) .text; begun = [] }) (record { held = s .held; text = s .text; begun = s .begun ++ (x ∷ []) }))
+        (cond c (record { held = answered (s₀ .held) (s₀ .begun) .held; text = s₀ .text ++ answered (s₀ .held) (s₀ .begun) .text; begun = [] }) (record { held = s₀ .held; text = s₀ .text; begun = s₀ .begun ++ (x ∷ []) }))
     go true = record {
-      box-same = ap (λ (e : Effect). e .box) same;
-      text-joined = ap (λ (u : List ℕ). u ++ answered (s .box) (s .begun) .text) (a .text-joined) ∙ append-assoc t (s₀ .text) (answered (s .box) (s .begun) .text) ∙ ap (λ (e : Effect). t ++ (s₀ .text ++ e .text)) same;
+      held-same = ap (λ (e : LineEffect). e .held) same;
+      text-joined = ap (λ (u : List ℕ). u ++ answered (s .held) (s .begun) .text) (a .text-joined) ∙ append-assoc t (s₀ .text) (answered (s .held) (s .begun) .text) ∙ ap (λ (e : LineEffect). t ++ (s₀ .text ++ e .text)) same;
       begun-alike = refl;
     }
     go false = record {
-      box-same = a .box-same;
+      held-same = a .held-same;
       text-joined = a .text-joined;
       begun-alike = take-front 4097 (s .begun) (x ∷ []) ∙ ap (λ (u : List ℕ). take 4097 (u ++ (x ∷ []))) (a .begun-alike) ∙ sym (take-front 4097 (s₀ .begun) (x ∷ []));
     }
@@ -108,7 +108,7 @@ holds-byte k s x h = go (eqb x 0x0a)
 
     go : (c : Bool) → Holds
         (cond c (record { bytes = k .bytes; kept = 0 }) (record { bytes = written (k .bytes) (k .kept) (x ∷ []); kept = behind (k .bytes) (k .kept) (x ∷ []) }))
-        (cond c (record { box = answered (s .box) (s .begun) .box; text = s .text ++ answered (s .box) (s .begun) .text; begun = [] }) (record { box = s .box; text = s .text; begun = s .begun ++ (x ∷ []) }))
+        (cond c (record { held = answered (s .held) (s .begun) .held; text = s .text ++ answered (s .held) (s .begun) .text; begun = [] }) (record { held = s .held; text = s .text; begun = s .begun ++ (x ∷ []) }))
     go true = record { size = h .size; front = refl }
     go false = record { size = puts-length put ∙ h .size; front = front-byte 4097 (s .begun) (k .bytes) _ (k .kept) _ x (h .size) (h .front) put }
 
@@ -125,7 +125,7 @@ take-taken n s =
     (λ h. let all : take n s ≡ s = take-all n s (omega arith) in rw all (take-all (length s) s (omega arith)))
 
 -- before a call the store holds the begun line itself
-pub holds-first : (b : DisplayBox) (store : List ℕ) (kept : ℕ) → length store ≡ 4097 → Holds (record { bytes = store; kept = length (take kept store) }) (atCall b store kept)
+pub holds-first : (b : Held) (store : List ℕ) (kept : ℕ) → length store ≡ 4097 → Holds (record { bytes = store; kept = length (take kept store) }) (atCall b store kept)
 holds-first b store kept l = record {
   size = l;
   front = take-taken kept store ∙ sym (take-all 4097 (take kept store) (simp length-take (omega arith)));

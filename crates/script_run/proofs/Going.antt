@@ -7,7 +7,7 @@ use native.Mathlib.Nat.{zero-add}
 use lib.ListN.{length, take, drop, length-append, length-take, length-drop}
 use lib.Seq.{take-add, drop-drop}
 use Rattle.laws.proofs.Areas.{over-front}
-use Rattle.panels.specs.declared.DisplayBox.{DisplayBox}
+use Rattle.script.specs.declared.Held.{Held}
 use Rattle.script_text.specs.Puts.{Puts}
 use Rattle.script_text.proofs.Puts.{puts-none, puts-then, puts-as, puts-whole, puts-length}
 use Rattle.script_room.specs.Room.{room}
@@ -16,7 +16,7 @@ use Rattle.script_run.specs.Pieces.{SoFar, atCall, further, reach, Store
 use Rattle.script_run.proofs.Moves.{reach-end, reach-full}
 use Rattle.script_run.proofs.Further.{further-append, stored-append}
 
-module _ (b : DisplayBox) (store₀ : List ℕ) (kept₀ : ℕ) (piece area₀ : List ℕ) where
+module _ (b : Held) (store₀ : List ℕ) (kept₀ : ℕ) (piece area₀ : List ℕ) where
   -- the script after so many bytes of the piece, and the store
   abbrev pub soFar : ℕ → SoFar
   soFar n = further (atCall b store₀ kept₀) (take n piece)
@@ -27,7 +27,7 @@ module _ (b : DisplayBox) (store₀ : List ℕ) (kept₀ : ℕ) (piece area₀ :
   pub record Going (p : Progress) (store area : List ℕ) : Type 0 where
     pub inside : p .next ≤ length piece
     pub left : reach (length area₀) (atCall b store₀ kept₀) piece ≡ p .next + reach (length area₀) (soFar (p .next)) (drop (p .next) piece)
-    pub box-is : p .held ≡ soFar (p .next) .box
+    pub held-is : p .held ≡ soFar (p .next) .held
     pub text-is : Puts (soFar (p .next) .text) area₀ 0 area (p .len)
     pub size-is : p .len ≡ length (soFar (p .next) .text)
     pub fits : p .len ≤ length area
@@ -39,7 +39,7 @@ module _ (b : DisplayBox) (store₀ : List ℕ) (kept₀ : ℕ) (piece area₀ :
   going-first kept e = record {
     inside = omega arith;
     left = sym (zero-add (reach (length area₀) (atCall b store₀ kept₀) piece));
-    box-is = refl;
+    held-is = refl;
     text-is = puts-none area₀ 0;
     size-is = refl;
     fits = omega arith;
@@ -58,7 +58,7 @@ module _ (b : DisplayBox) (store₀ : List ℕ) (kept₀ : ℕ) (piece area₀ :
 
     pub going-on : r .next ≤ length piece → r .kept ≤ length store′
         → reach (length area₀) (soFar (p .next)) (drop (p .next) piece) ≡ length u + reach (length area₀) (further (soFar (p .next)) u) (drop (length u) (drop (p .next) piece))
-        → r .held ≡ further (soFar (p .next)) u .box
+        → r .held ≡ further (soFar (p .next)) u .held
         → further (soFar (p .next)) u .text ≡ soFar (p .next) .text ++ w
         → p .len + length w ≤ length area → Puts w area (p .len) area′ (r .len)
         → record { bytes = store′; kept = r .kept } ≡ stored (record { bytes = store; kept = p .kept }) u
@@ -73,7 +73,7 @@ module _ (b : DisplayBox) (store₀ : List ℕ) (kept₀ : ℕ) (piece area₀ :
         record {
           inside = inside;
           left = let q = g .left in omega (arith, q, more, next);
-          box-is = box ∙ ap (λ (s : SoFar). s .box) (sym so-far-on);
+          held-is = box ∙ ap (λ (s : SoFar). s .held) (sym so-far-on);
           text-is = puts-as texts (puts-then (g .text-is) put);
           size-is = omega (arith, len, size);
           fits = omega (arith, len, room, same);
@@ -87,7 +87,7 @@ module _ (b : DisplayBox) (store₀ : List ℕ) (kept₀ : ℕ) (piece area₀ :
       let whole = puts-whole (g .text-is) (let q = g .size-is in let f = g .fits in let l = puts-length (g .text-is) in omega (arith, q, f, l)) in
       record {
         next-is = let q = g .left in omega (arith, q, z);
-        box-is = g .box-is;
+        held-is = g .held-is;
         text-is = record { length-is = g .size-is; area-is = whole .0 ∙ over-front area₀ (soFar (p .next) .text) };
         store-is = g .store-is;
       }

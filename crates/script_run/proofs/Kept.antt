@@ -8,30 +8,33 @@ use lib.Dec.{eqb, leb}
 use lib.ListN.{length, getD, take}
 use lib.Seq.{take-all, getD-take, length-take-le}
 use borrow.Author.Tests.{leb-true, leb-false, lt-ltb, ne-eqb}
-use Rattle.panels.specs.declared.DisplayBox.{DisplayBox}
+use Rattle.script.specs.declared.Held.{Held}
 use Rattle.script_lines.specs.Orders.{isPassedOver, orderOf}
 use Rattle.script_lines.specs.declared.Order.{Order}
-use Rattle.script_lines.specs.declared.Order.the-variants.{Passed, Unread}
-use Rattle.script.specs.Answers.{ordered, answered}
+use Rattle.script_lines.specs.declared.Order.the-variants.{OnBox}
+use Rattle.script_lines.specs.declared.BoxOrder.the-variants.{Passed, Unread}
+use Rattle.script.specs.Answers.{onBox}
+use Rattle.script_orders.specs.Orders.{ordered}
+use Rattle.script.specs.Answers.{carriedOut, answered}
 
 -- what a line that is too long is: its first byte says it
 abbrev longOrder : List ℕ → Order
-longOrder l = cond (eqb (getD l 0 0) 0x23) Passed Unread
+longOrder l = cond (eqb (getD l 0 0) 0x23) (OnBox Passed) (OnBox Unread)
 
 long-order : (l : List ℕ) → 4096 < length l → orderOf l ≡ longOrder l
 unfolding orderOf isPassedOver
 long-order l h = rw (ne-eqb (length l) 0 (λ e. omega (arith, h, e)), lt-ltb 4096 (length l) h)
 
-unheard : (c : Bool) (b : DisplayBox) (l : List ℕ) → ordered (cond c Passed Unread) b l ≡ ordered (cond c Passed Unread) b []
-unfolding ordered
+unheard : (c : Bool) (b : Held) (l : List ℕ) → carriedOut (cond c (OnBox Passed) (OnBox Unread)) b l ≡ carriedOut (cond c (OnBox Passed) (OnBox Unread)) b []
+unfolding ordered onBox carriedOut
 unheard true b l = refl
 unheard false b l = refl
 
-long-answered : (b : DisplayBox) (l : List ℕ) → 4096 < length l → answered b l ≡ ordered (longOrder l) b []
+long-answered : (b : Held) (l : List ℕ) → 4096 < length l → answered b l ≡ carriedOut (longOrder l) b []
 unfolding answered
-long-answered b l h = ap (λ (o : Order). ordered o b l) (long-order l h) ∙ unheard (eqb (getD l 0 0) 0x23) b l
+long-answered b l h = ap (λ (o : Order). carriedOut o b l) (long-order l h) ∙ unheard (eqb (getD l 0 0) 0x23) b l
 
-pub kept-answered : (b : DisplayBox) (line : List ℕ) → answered b (take 4097 line) ≡ answered b line
+pub kept-answered : (b : Held) (line : List ℕ) → answered b (take 4097 line) ≡ answered b line
 kept-answered b line = go (leb (length line) 4097) refl
   where
     go : (c : Bool) → leb (length line) 4097 ≡ c → answered b (take 4097 line) ≡ answered b line
@@ -40,9 +43,9 @@ kept-answered b line = go (leb (length line) 4097) refl
         let h = leb-false (length line) 4097 e in
         let l : length (take 4097 line) ≡ 4097 = length-take-le 4097 line (omega (arith, h)) in
         long-answered b (take 4097 line) (omega (arith, l))
-        ∙ ap (λ (x : ℕ). ordered (cond (eqb x 0x23) Passed Unread) b []) (getD-take 4097 line 0 0 (omega arith))
+        ∙ ap (λ (x : ℕ). carriedOut (cond (eqb x 0x23) (OnBox Passed) (OnBox Unread)) b []) (getD-take 4097 line 0 0 (omega arith))
         ∙ sym (long-answered b line (omega (arith, h)))
 
 -- two lines whose first 4,097 bytes are the same are answered alike
-pub alike-answered : (b : DisplayBox) (l m : List ℕ) → take 4097 l ≡ take 4097 m → answered b l ≡ answered b m
+pub alike-answered : (b : Held) (l m : List ℕ) → take 4097 l ≡ take 4097 m → answered b l ≡ answered b m
 alike-answered b l m e = sym (kept-answered b l) ∙ ap (answered b) e ∙ kept-answered b m

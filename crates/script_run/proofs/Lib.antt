@@ -1,4 +1,3 @@
-pub mod Behind
 pub mod Determined
 pub mod Examples
 pub mod Further

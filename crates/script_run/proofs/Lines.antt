@@ -39,7 +39,7 @@ line-is (x ∷ s) = go (eqb x 0x0a) refl (line-is s)
 
 -- the script so far, and bytes of the same line behind it
 abbrev pub goesOn : SoFar → List ℕ → SoFar
-goesOn s l = record { box = s .box; text = s .text; begun = s .begun ++ l }
+goesOn s l = record { held = s .held; text = s .text; begun = s .begun ++ l }
 
 pub byte-on : (s : SoFar) (x : ℕ) → eqb x 0x0a ≡ false → byteMore s x ≡ goesOn s (x ∷ [])
 unfolding byteMore
@@ -47,12 +47,12 @@ byte-on s x e = rw e
 
 pub line-further : (s : SoFar) (l : List ℕ) → IsLine l → further s l ≡ goesOn s l
 unfolding further
-line-further s [] h = ap (λ (t : List ℕ). record { box = s .box; text = s .text; begun = t }) (sym (append-nil (s .begun)))
+line-further s [] h = ap (λ (t : List ℕ). record { held = s .held; text = s .text; begun = t }) (sym (append-nil (s .begun)))
 line-further s (x ∷ l) h =
     let (e, i) = first-byte x l h in
     ap (λ (q : SoFar). further q l) (byte-on s x e)
     ∙ line-further (goesOn s (x ∷ [])) l i
-    ∙ ap (λ (t : List ℕ). record { box = s .box; text = s .text; begun = t }) (append-assoc (s .begun) (x ∷ []) l)
+    ∙ ap (λ (t : List ℕ). record { held = s .held; text = s .text; begun = t }) (append-assoc (s .begun) (x ∷ []) l)
 
 byte-stored : (k : Store) (x : ℕ) → eqb x 0x0a ≡ false → Puts (x ∷ []) (k .bytes) (k .kept) (byteStored k x .bytes) (byteStored k x .kept)
 unfolding byteStored
@@ -69,19 +69,19 @@ line-stored k (x ∷ l) h =
 pub line-reach : (size : ℕ) (s : SoFar) (l t : List ℕ) → IsLine l → length (s .text) + room ≤ size → reach size s (l ++ t) ≡ length l + reach size (goesOn s l) t
 unfolding reach
 line-reach size s [] t h r =
-    ap (λ (u : List ℕ). reach size (record { box = s .box; text = s .text; begun = u }) t) (sym (append-nil (s .begun))) ∙ sym (zero-add (reach size (goesOn s []) t))
+    ap (λ (u : List ℕ). reach size (record { held = s .held; text = s .text; begun = u }) t) (sym (append-nil (s .begun))) ∙ sym (zero-add (reach size (goesOn s []) t))
 line-reach size s (x ∷ l) t h r =
     let (e, i) = first-byte x l h in
     rw (le-leb (length (s .text) + room) size r)
     (ap suc
     (ap (λ (q : SoFar). reach size q (l ++ t)) (byte-on s x e)
     ∙ line-reach size (goesOn s (x ∷ [])) l t i r
-    ∙ ap (λ (u : List ℕ). length l + reach size (record { box = s .box; text = s .text; begun = u }) t) (append-assoc (s .begun) (x ∷ []) l))
+    ∙ ap (λ (u : List ℕ). length l + reach size (record { held = s .held; text = s .text; begun = u }) t) (append-assoc (s .begun) (x ∷ []) l))
     ∙ sym (suc-add (length l) (reach size (goesOn s (x ∷ l)) t)))
 
 -- 0Ah ends the line
 abbrev pub ended : SoFar → SoFar
-ended s = record { box = answered (s .box) (s .begun) .box; text = s .text ++ answered (s .box) (s .begun) .text; begun = [] }
+ended s = record { held = answered (s .held) (s .begun) .held; text = s .text ++ answered (s .held) (s .begun) .text; begun = [] }
 
 pub end-byte : (s : SoFar) → byteMore s 0x0a ≡ ended s
 unfolding byteMore

@@ -7,7 +7,7 @@ use native.Mathlib.Omega.{arith}
 use lib.Dec.{leb}
 use lib.ListN.{length, take, drop, length-append}
 use borrow.Author.Tests.{le-leb, lt-leb}
-use Rattle.panels.specs.declared.DisplayBox.{DisplayBox}
+use Rattle.script.specs.declared.Held.{Held}
 use Rattle.script_room.specs.Room.{room}
 use Rattle.script_run.specs.declared.Progress.{Progress}
 use Rattle.script_run.specs.Pieces.{SoFar, atCall, byteMore, further, reach, Runs}
@@ -37,7 +37,7 @@ unfolding reach
 reach-some size s [] h i = absurd (omega arith)
 reach-some size s (x ∷ bytes) h i = rw (le-leb (length (s .text) + room) size h) (omega arith)
 
-module _ {b : DisplayBox} {store piece area store′ area′ : List ℕ} {kept : ℕ} {r : Progress} (q : Runs b store kept piece area r store′ area′) where
+module _ {b : Held} {store piece area store′ area′ : List ℕ} {kept : ℕ} {r : Progress} (q : Runs b store kept piece area r store′ area′) where
   pub next-inside : r .next ≤ length piece
   next-inside = let e = q .next-is in let h = reach-inside (length area) (atCall b store kept) piece in omega (arith, e, h)
 

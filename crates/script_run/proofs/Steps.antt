@@ -9,17 +9,17 @@ use lib.ListN.{length, getD, take, drop, length-append, length-drop, take-append
 use lib.Seq.{split-at, take-at}
 use lib.Dec.{ltb}
 use borrow.Author.Tests.{ltb-true, ltb-false}
-use Rattle.panels.specs.declared.DisplayBox.{DisplayBox}
+use Rattle.script.specs.declared.Held.{Held}
 use Rattle.script_words.specs.Words.{lineOf}
 use Rattle.script_words.proofs.Words.{before-fits, before-take, before-stop}
 use Rattle.script_text.specs.Puts.{Puts}
 use Rattle.script_text.proofs.Puts.{puts-one, puts-end, puts-length}
 use Rattle.script_pieces.specs.Parts.{endOf, isEnded, nextOf}
 use Rattle.script_pieces.proofs.Parts.{next-here, next-behind}
-use Rattle.script_answers.specs.Answers.{Effect}
+use Rattle.script.specs.Answers.{LineEffect}
 use Rattle.script.specs.Answers.{answered}
 use Rattle.script_room.specs.Room.{room}
-use Rattle.script_room.proofs.Fits.{text-fits}
+use Rattle.script_room.proofs.Pieces.{text-fits}
 use Rattle.script_run.specs.declared.Progress.{Progress}
 use Rattle.script_run.specs.Lines.{partDone, RunsLine}
 use Rattle.script_run.specs.Pieces.{SoFar, atCall, further, reach, Store, stored}
@@ -46,7 +46,7 @@ line-moves {piece} {p = p} {r = r} q some = go (ltb (endOf (p .next) piece) (len
     go true e n = omega (arith, n)
     go false e n = let h = ltb-false (endOf (p .next) piece) (length piece) e in omega (arith, n, h, some)
 
-module _ (b : DisplayBox) (store₀ : List ℕ) (kept₀ : ℕ) (piece area₀ : List ℕ) (size : length store₀ ≡ 4097)
+module _ (b : Held) (store₀ : List ℕ) (kept₀ : ℕ) (piece area₀ : List ℕ) (size : length store₀ ≡ 4097)
     (p r : Progress) (store area store′ area′ : List ℕ) (g : Going b store₀ kept₀ piece area₀ p store area)
     (some : p .next < length piece) (enough : p .len + room ≤ length area) where
   same-size : length area ≡ length area₀
@@ -74,14 +74,14 @@ module _ (b : DisplayBox) (store₀ : List ℕ) (kept₀ : ℕ) (piece area₀ :
   kept-inside put = let e = puts-end put (g .full) in let l = puts-length put in omega (arith, e, l)
 
   -- the store's front is answered as the whole line
-  front-answered : {kept : ℕ} → Puts line store (p .kept) store′ kept → answered (p .held) (take kept store′) ≡ answered (so .box) (so .begun ++ line)
+  front-answered : {kept : ℕ} → Puts line store (p .kept) store′ kept → answered (p .held) (take kept store′) ≡ answered (so .held) (so .begun ++ line)
   front-answered {kept} put =
       let first : Holds (storeNow b store₀ kept₀ piece area₀ (p .next)) so = holds-further _ _ (take (p .next) piece) (holds-first b store₀ kept₀ size) in
       let then = holds-further held so line (subst (λ (k : Store). Holds k so) (sym (g .store-is)) first) in
       let now : Holds (record { bytes = store′; kept = kept }) (further so line) = subst (λ (k : Store). Holds k (further so line)) (sym (line-kept put)) then in
       ap (answered (p .held)) (now .front ∙ ap (λ (s : SoFar). take 4097 (s .begun)) (line-further so line (line-is rest)))
       ∙ kept-answered (p .held) (so .begun ++ line)
-      ∙ ap (λ (c : DisplayBox). answered c (so .begun ++ line)) (g .box-is)
+      ∙ ap (λ (c : Held). answered c (so .begun ++ line)) (g .held-is)
 
   -- the piece ended before the line
   begun-on : r .next ≡ p .next + length line → r .held ≡ p .held → Puts [] area (p .len) area′ (r .len) → Puts line store (p .kept) store′ (r .kept)
@@ -100,7 +100,7 @@ module _ (b : DisplayBox) (store₀ : List ℕ) (kept₀ : ℕ) (piece area₀ :
       (ap (reach (length area₀) so) all
       ∙ line-reach (length area₀) so line tail (line-is rest) (omega (arith, e, enough, same-size))
       ∙ ap (λ (s : SoFar). length line + reach (length area₀) s tail) (sym on))
-      (box ∙ g .box-is ∙ ap (λ (s : SoFar). s .box) (sym on))
+      (box ∙ g .held-is ∙ ap (λ (s : SoFar). s .held) (sym on))
       (ap (λ (s : SoFar). s .text) on ∙ sym (append-nil (so .text)))
       (omega (arith, enough))
       text
@@ -108,7 +108,7 @@ module _ (b : DisplayBox) (store₀ : List ℕ) (kept₀ : ℕ) (piece area₀ :
 
   -- the line ended in the piece
   ended-on : length line < length rest → r .next ≡ p .next + length line + 1 → {kept : ℕ} → Puts line store (p .kept) store′ kept
-      → r .held ≡ answered (p .held) (take kept store′) .box → Puts (answered (p .held) (take kept store′) .text) area (p .len) area′ (r .len) → r .kept ≡ 0
+      → r .held ≡ answered (p .held) (take kept store′) .held → Puts (answered (p .held) (take kept store′) .text) area (p .len) area′ (r .len) → r .kept ≡ 0
       → Going b store₀ kept₀ piece area₀ r store′ area′
   ended-on short next {kept} put box text none =
       let d = length-drop (p .next) piece in
@@ -130,8 +130,8 @@ module _ (b : DisplayBox) (store₀ : List ℕ) (kept₀ : ℕ) (piece area₀ :
       (omega (arith, short, d, next, some))
       (omega (arith, none))
       (ap (reach (length area₀) so) (all ∙ append-assoc line (0x0a ∷ []) tail) ∙ omega (arith, reached, left, more))
-      (box ∙ ap (λ (f : Effect). f .box) same ∙ ap (λ (s : SoFar). s .box) (sym on))
-      (ap (λ (s : SoFar). s .text) on ∙ ap (λ (f : Effect). so .text ++ f .text) (sym same))
+      (box ∙ ap (λ (f : LineEffect). f .held) same ∙ ap (λ (s : SoFar). s .held) (sym on))
+      (ap (λ (s : SoFar). s .text) on ∙ ap (λ (f : LineEffect). so .text ++ f .text) (sym same))
       (omega (arith, enough, fit))
       text
       (ap (λ (k : ℕ). record { bytes = store′; kept = k }) none ∙ sym (end-stored held line (line-is rest) put))
@@ -139,11 +139,11 @@ module _ (b : DisplayBox) (store₀ : List ℕ) (kept₀ : ℕ) (piece area₀ :
   -- either way
   pub line-on : RunsLine p piece store area r store′ area′ → Going b store₀ kept₀ piece area₀ r store′ area′
   unfolding partDone isEnded
-  line-on q = go (q .part .ended) refl (q .box-is) (q .text-is) (q .kept-is)
+  line-on q = go (q .part .ended) refl (q .held-is) (q .text-is) (q .kept-is)
     where
       go : (c : Bool) → q .part .ended ≡ c
-          → r .held ≡ cond c (answered (p .held) (take (q .part .kept) store′)) (record { box = p .held; text = [] }) .box
-          → Puts (cond c (answered (p .held) (take (q .part .kept) store′)) (record { box = p .held; text = [] }) .text) area (p .len) area′ (r .len)
+          → r .held ≡ cond c (answered (p .held) (take (q .part .kept) store′)) (record { held = p .held; text = [] }) .held
+          → Puts (cond c (answered (p .held) (take (q .part .kept) store′)) (record { held = p .held; text = [] }) .text) area (p .len) area′ (r .len)
           → r .kept ≡ cond c 0 (q .part .kept)
           → Going b store₀ kept₀ piece area₀ r store′ area′
       go true e box text kept =

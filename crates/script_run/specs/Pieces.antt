@@ -6,7 +6,7 @@ use mathlib.Core.List.{List, [], _∷_, _++_}
 use lib.Dec.{eqb, leb}
 use lib.ListN.{length, take}
 use Rattle.laws.specs.Bytes.{Sent}
-use Rattle.panels.specs.declared.DisplayBox.{DisplayBox}
+use Rattle.script.specs.declared.Held.{Held}
 use Rattle.script_text.specs.Puts.{written, behind}
 use Rattle.script.specs.Answers.{answered}
 use Rattle.script_room.specs.Room.{room}
@@ -14,7 +14,7 @@ use Rattle.script_run.specs.declared.Progress.{Progress}
 
 -- the script so far: the box, what was written, and what came of the line that has not ended
 pub record SoFar : Type 0 where
-  pub box : DisplayBox
+  pub held : Held
   pub text : List ℕ
   pub begun : List ℕ
 
@@ -22,8 +22,8 @@ pub record SoFar : Type 0 where
 unfoldable pub byteMore : SoFar → ℕ → SoFar
 byteMore s x =
     cond (eqb x 0x0a)
-    (record { box = answered (s .box) (s .begun) .box; text = s .text ++ answered (s .box) (s .begun) .text; begun = [] })
-    (record { box = s .box; text = s .text; begun = s .begun ++ (x ∷ []) })
+    (record { held = answered (s .held) (s .begun) .held; text = s .text ++ answered (s .held) (s .begun) .text; begun = [] })
+    (record { held = s .held; text = s .text; begun = s .begun ++ (x ∷ []) })
 
 unfoldable pub further : SoFar → List ℕ → SoFar
 further s [] = s
@@ -50,12 +50,12 @@ stored k [] = k
 stored k (x ∷ bytes) = stored (byteStored k x) bytes
 
 -- before a call: nothing is written yet, and the store's front is the line that has not ended
-abbrev pub atCall : DisplayBox → List ℕ → ℕ → SoFar
-atCall b store kept = record { box = b; text = []; begun = take kept store }
+abbrev pub atCall : Held → List ℕ → ℕ → SoFar
+atCall b store kept = record { held = b; text = []; begun = take kept store }
 
 -- the promise: how far the piece was taken, and for these bytes the box, the text at the front of the area, and the store
-pub record Runs (b : DisplayBox) (store : List ℕ) (kept : ℕ) (piece area : List ℕ) (r : Progress) (store′ area′ : List ℕ) : Type 0 where
+pub record Runs (b : Held) (store : List ℕ) (kept : ℕ) (piece area : List ℕ) (r : Progress) (store′ area′ : List ℕ) : Type 0 where
   pub next-is : r .next ≡ reach (length area) (atCall b store kept) piece
-  pub box-is : r .held ≡ further (atCall b store kept) (take (r .next) piece) .box
+  pub held-is : r .held ≡ further (atCall b store kept) (take (r .next) piece) .held
   pub text-is : Sent (further (atCall b store kept) (take (r .next) piece) .text) (r .len) area area′
   pub store-is : record { bytes = store′; kept = r .kept } ≡ stored (record { bytes = store; kept = length (take kept store) }) (take (r .next) piece)

@@ -3,10 +3,10 @@ use Prim.Native.Nat.{ℕ}
 use mathlib.Core.Bool.{cond}
 use mathlib.Core.List.{List, [], _∷_, _++_}
 use lib.Dec.{eqb}
-use Rattle.panels.specs.Records.{noBox}
-use Rattle.panels.specs.declared.DisplayBox.{DisplayBox}
+use Rattle.script.specs.Answers.{atStart}
+use Rattle.script.specs.declared.Held.{Held}
 use Rattle.script_words.specs.Words.{toFirst}
-use Rattle.script_answers.specs.Answers.{Effect}
+use Rattle.script.specs.Answers.{LineEffect}
 use Rattle.script.specs.Answers.{answered}
 
 -- "A line ends with 0Ah; the last may lack it."
@@ -15,13 +15,13 @@ linesOf [] = []
 linesOf (x ∷ s) = cond (eqb x 0x0a) ([] ∷ linesOf s) (toFirst x (linesOf s))
 
 -- one line after the other: each has the box that the one before it left, and the texts stand one behind the other
-unfoldable pub inTurn : DisplayBox → List (List ℕ) → Effect
-inTurn b [] = record { box = b; text = [] }
+unfoldable pub inTurn : Held → List (List ℕ) → LineEffect
+inTurn b [] = record { held = b; text = [] }
 inTurn b (line ∷ lines) = record {
-  box = inTurn (answered b line .box) lines .box;
-  text = answered b line .text ++ inTurn (answered b line .box) lines .text;
+  held = inTurn (answered b line .held) lines .held;
+  text = answered b line .text ++ inTurn (answered b line .held) lines .text;
 }
 
 -- "A script starts with a box of no panels."
-unfoldable pub scriptDone : List ℕ → Effect
-scriptDone script = inTurn noBox (linesOf script)
+unfoldable pub scriptDone : List ℕ → LineEffect
+scriptDone script = inTurn atStart (linesOf script)

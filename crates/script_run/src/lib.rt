@@ -1,12 +1,15 @@
-// A script that arrives in pieces: its lines are answered one after the other, each with the box that the last one left (docs/SCRIPTS.md).
+// A script that arrives in pieces: its lines are answered one after the other, each with what the last one left of box and receivers (docs/SCRIPTS.md).
 use configure::configure;
 use panels::DisplayBox;
+use receiver::empty_receiver;
+use script::Held;
 use script::answer_line;
 use script_pieces::take_part;
 ghost use mathlib.Core.Path.{_≡_};
 ghost use Prim.Native.Nat.{_≤_};
 ghost use lib.ListN.{length, take};
 ghost use Rattle.panels.specs.Records.{noBox};
+ghost use Rattle.script.specs.Answers.{atStart};
 ghost use Rattle.script_run.specs.Lines.{RunsLine};
 ghost use Rattle.script_run.specs.Pieces.{Runs};
 
@@ -14,24 +17,34 @@ ghost use Rattle.script_run.specs.Pieces.{Runs};
 pub const STORE: usize = 4097;
 
 // Room for the longest text of a line.
-const ROOM: usize = 4096;
+const ROOM: usize = 24576;
 
-// How far a script is: the box, how much of the line that has not ended stands in the store, where the piece goes on, and how much
+// How far a script is: what it holds, how much of the line that has not ended stands in the store, where the piece goes on, and how much
 // of the area is text.
 pub struct Progress {
-    pub held: DisplayBox,
+    pub held: Held,
     pub kept: usize,
     pub next: usize,
     pub len: usize,
 }
 
 // "A script starts with a box of no panels": an empty configuration gives that box.
-pub fn start() -> DisplayBox
+fn no_panels() -> DisplayBox
     ensures { λ r. ⌜ r ≡ noBox ⌝ }
 {
     let empty = [0u8; 1];
     let c = configure(&empty[..0]);
     c.made
+}
+
+// "and with empty receivers"
+pub fn start() -> Held
+    ensures { λ r. ⌜ r ≡ atStart ⌝ }
+{
+    let made = no_panels();
+    let r = empty_receiver();
+    let receivers = [r; 8];
+    Held { made, receivers }
 }
 
 // How much of the store is the line that has not ended.
@@ -74,7 +87,7 @@ fn run_line(p: Progress, piece: &[u8], store: &mut [u8], area: &mut [u8]) -> Pro
 
 // The lines of a piece one after the other, as far as the area has room for their texts; what is left of the piece is for the next call.
 pub fn run_piece(
-    held: DisplayBox,
+    held: Held,
     kept: usize,
     piece: &[u8],
     store: &mut [u8; STORE],

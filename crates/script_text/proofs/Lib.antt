@@ -1,3 +1,4 @@
+pub mod Behind
 pub mod Determined
 pub mod Examples
 pub mod Puts

@@ -10,15 +10,17 @@ ghost use lib.ListN.{length, getD, drop};
 ghost use Rattle.laws.specs.Bytes.{Sent};
 ghost use Rattle.decimals.specs.Decimals.{upTo};
 ghost use Rattle.script_words.specs.Words.{before, wordsIn, wordAt, valueOf, numberAt, bytesIn, bytesAt};
-ghost use Rattle.script_words.specs.Kinds.{isNumber, isFamily, isKind, shaped};
+ghost use Rattle.script_words.specs.Kinds.{isNumber, isFamily, isLink, isKind, shaped};
 ghost use Rattle.script_words.specs.KindNumbers.{kindOf};
 use script_hex::hex_value;
 use script_hex::is_hex;
 
-// The kinds of words as numbers: HEX, a family's letter, and any other number for the most that an N may be.
+// The kinds of words as numbers: HEX, a family's letter, the link of a receiver, and any other number for the most that an N may be.
 pub const HEX: u32 = 0;
 
 pub const FAMILY: u32 = 1;
+
+pub const LINK: u32 = 2;
 
 pub const ANY: u32 = 4294967295;
 
@@ -136,6 +138,13 @@ fn is_number(w: &[u8], most: u32) -> bool
     true
 }
 
+// "LINK (1 to 8)"
+fn is_link(w: &[u8]) -> bool
+    ensures { λ r. ⌜ r ≡ isLink (now (w .entry)) ⌝ }
+{
+    0 < number_in(w, 8)
+}
+
 // Whether a word is of a kind.
 fn is_kind(kind: u32, w: &[u8]) -> bool
     ensures { λ r. ⌜ r ≡ isKind (kindOf kind) (now (w .entry)) ⌝ }
@@ -145,6 +154,9 @@ fn is_kind(kind: u32, w: &[u8]) -> bool
     }
     if kind == FAMILY {
         return is_family(w);
+    }
+    if kind == LINK {
+        return is_link(w);
     }
     is_number(w, kind)
 }

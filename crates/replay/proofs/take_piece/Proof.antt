@@ -6,7 +6,7 @@ use mathlib.Core.List.{List, _++_, append-nil, append-assoc}
 use Prim.Native.Nat.{ℕ, _+_, _-_, _<_, _≤_}
 use lib.ListN.{length, take, drop, length-drop}
 use lib.Seq.{take-add, take-all, length-take-le}
-use Rattle.panels.specs.declared.DisplayBox.{DisplayBox}
+use Rattle.script.specs.declared.Held.{Held}
 use Rattle.laws.proofs.Lists.{rest}
 use Rattle.script_run.specs.Calls.{Reached}
 use Rattle.script_run.specs.Pieces.{Runs}
@@ -17,14 +17,14 @@ use Rattle.replay.proofs.take_piece.Statement.{statement}
 use Rattle.replay.proofs.take_piece.Tie as tie
 
 -- a call on what is left of the piece
-module _ (piece : List ℕ) (at : ℕ) {b : DisplayBox} {store area store′ area′ : List ℕ} {kept : ℕ} {r : Progress} (q : Runs b store kept (take (length piece - at) (drop at piece)) area r store′ area′) where
+module _ (piece : List ℕ) (at : ℕ) {b : Held} {store area store′ area′ : List ℕ} {kept : ℕ} {r : Progress} (q : Runs b store kept (take (length piece - at) (drop at piece)) area r store′ area′) where
   inside : at ≤ length piece → at + r .next ≤ length piece
   inside h =
       let n = next-inside q in
       let l = ap length (rest piece at) ∙ length-drop at piece in
       omega (arith, n, l, h)
 
-  further : at < length piece → 4096 ≤ length area → 0 < r .next
+  further : at < length piece → 24576 ≤ length area → 0 < r .next
   further h i = let l = ap length (rest piece at) ∙ length-drop at piece in moves-on q (omega (arith, l, h)) i
 
   reached : (bytes : List ℕ) → Reached (bytes ++ take at piece) b store kept → Reached (bytes ++ take (at + r .next) piece) (r .held) store′ (r .kept)

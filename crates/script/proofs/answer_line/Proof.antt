@@ -1,233 +1,66 @@
 -- `answer_line` does what the order of the line does.
+use borrow.Author.Needs.{needs}
+use mathlib.Core.Path.{_≡_, sym, subst, _∙_}
 use Prim.Native.Nat.{ℕ}
-use mathlib.Core.Path.{_≡_, refl, sym, subst, _∙_}
 use mathlib.Core.List.{List}
-use Rattle.panels.specs.declared.DisplayBox.{DisplayBox}
 use Rattle.script_lines.specs.Orders.{orderOf}
 use Rattle.script_lines.specs.declared.Order.{Order}
-use Rattle.script_text.proofs.Puts.{puts-none}
-use Rattle.script_answers.specs.Answers.{Answers}
-use Rattle.script_answers.specs.declared.Answered.{Answered}
-use Rattle.script.specs.Answers.{ordered, answered}
-use borrow.Author.Needs.{needs}
+use Rattle.script.specs.Answers.{Leaves, carriedOut, answered}
+use Rattle.script.specs.declared.Held.{Held}
+use Rattle.script.specs.declared.Left.{Left}
 use Rattle.script.proofs.answer_line.Statement.{statement}
 use Rattle.script.proofs.answer_line.Tie as tie
 
 -- what the order of a line does is what the line does
-by-order : (b : DisplayBox) (line : List ℕ) {o : Order} {area area′ : List ℕ} {r : Answered} → orderOf line ≡ o → Answers (ordered o b line) r area area′ → Answers (answered b line) r area area′
+by-order : (s : Held) (line : List ℕ) {o : Order} {area area′ : List ℕ} {r : Left} → orderOf line ≡ o → Leaves (carriedOut o s line) r area area′ → Leaves (answered s line) r area area′
 unfolding answered
-by-order b line {o} {area} {area′} {r} e h = subst (λ (x : Order). Answers (ordered x b line) r area area′) (sym e) h
+by-order s line {o} {area} {area′} {r} e h = subst (λ (x : Order). Leaves (carriedOut x s line) r area area′) (sym e) h
 
 order-of-requires : tie.Need-order-of-requires
 order-of-requires c κs = search needs
 
+enum-known-order : tie.Need-enum-known-order
+enum-known-order c = search needs
+
+box-line-requires : tie.Need-box-line-requires
+box-line-requires c κs = search needs
+
 enum-told : tie.Need-enum-told
 enum-told c = search needs
 
-enum-told-2 : tie.Need-enum-told-2
-enum-told-2 c = search needs
-
-slice-aggregate-say : tie.Need-slice-aggregate-say
-slice-aggregate-say c = search needs
-
-say-requires : tie.Need-say-requires
-say-requires c κs = search needs
-
-enum-told-3 : tie.Need-enum-told-3
-enum-told-3 c = search needs
-
-answer-box-requires : tie.Need-answer-box-requires
-answer-box-requires c κs = search needs
-
-enum-told-4 : tie.Need-enum-told-4
-enum-told-4 c = search needs
-
-answer-message-requires : tie.Need-answer-message-requires
-answer-message-requires c κs = search needs
-
-enum-told-5 : tie.Need-enum-told-5
-enum-told-5 c = search needs
-
-answer-message-requires-2 : tie.Need-answer-message-requires-2
-answer-message-requires-2 c κs = search needs
-
-enum-told-6 : tie.Need-enum-told-6
-enum-told-6 c = search needs
-
-answer-message-requires-3 : tie.Need-answer-message-requires-3
-answer-message-requires-3 c κs = search needs
-
-enum-told-7 : tie.Need-enum-told-7
-enum-told-7 c = search needs
-
-answer-udp-requires : tie.Need-answer-udp-requires
-answer-udp-requires c κs = search needs
-
-enum-told-8 : tie.Need-enum-told-8
-enum-told-8 c = search needs
-
-answer-show-requires : tie.Need-answer-show-requires
-answer-show-requires c κs = search needs
-
-enum-told-9 : tie.Need-enum-told-9
-enum-told-9 c = search needs
-
-answer-advert-requires : tie.Need-answer-advert-requires
-answer-advert-requires c κs = search needs
-
-enum-told-10 : tie.Need-enum-told-10
-enum-told-10 c = search needs
-
-answer-write-requires : tie.Need-answer-write-requires
-answer-write-requires c κs = search needs
-
-enum-told-11 : tie.Need-enum-told-11
-enum-told-11 c = search needs
-
-answer-sum-requires : tie.Need-answer-sum-requires
-answer-sum-requires c κs = search needs
-
-returns : tie.Need-returns
-unfolding ordered
-returns c =
-    let a = c .before .before .before .before .before .args in
-    by-order (a .b) (a .line .now) (sym (c .before .before .order-of .ensures) ∙ c .enum-told .given .1) (record { box-is = refl; text-is = puts-none (a .out .now) 0 })
+piece-line-requires : tie.Need-piece-line-requires
+piece-line-requires c κs = search needs
 
 same-length : tie.Need-same-length
 same-length c = search needs
 
-returns-2 : tie.Need-returns-2
-unfolding ordered
-returns-2 c =
-    let a = c .before .before .before .before .before .before .before .before .before .before .args in
-    by-order (a .b) (a .line .now) (sym (c .before .before .before .before .before .before .before .order-of .ensures) ∙ c .before .before .before .before .before .enum-told2 .given .1) (c .before .before .say .ensures)
+returns : tie.Need-returns
+unfolding carriedOut
+returns c =
+    let o = c .before .before .before .before .before .before .before in
+    let a = o .before .before .before .args in
+    by-order (a .s) (a .line .now) (sym (o .order-of .ensures) ∙ c .before .before .before .before .before .order .given .1) (c .before .before .box-line .ensures)
 
 same-length-2 : tie.Need-same-length-2
 same-length-2 c = search needs
 
-returns-3 : tie.Need-returns-3
-unfolding ordered
-returns-3 c =
-    let a = c .before .before .before .before .before .before .before .before .before .args in
-    by-order (a .b) (a .line .now) (sym (c .before .before .before .before .before .before .order-of .ensures) ∙ c .before .before .before .before .enum-told3 .given .1) (c .before .before .answer-box .ensures)
-
-same-length-3 : tie.Need-same-length-3
-same-length-3 c = search needs
-
-returns-4 : tie.Need-returns-4
-unfolding ordered
-returns-4 c =
-    let a = c .before .before .before .before .before .before .before .before .before .args in
-    by-order (a .b) (a .line .now) (sym (c .before .before .before .before .before .before .order-of .ensures) ∙ c .before .before .before .before .enum-told4 .given .1) (c .before .before .answer-message .ensures)
-
-same-length-4 : tie.Need-same-length-4
-same-length-4 c = search needs
-
-returns-5 : tie.Need-returns-5
-unfolding ordered
-returns-5 c =
-    let a = c .before .before .before .before .before .before .before .before .before .args in
-    by-order (a .b) (a .line .now) (sym (c .before .before .before .before .before .before .order-of .ensures) ∙ c .before .before .before .before .enum-told5 .given .1) (c .before .before .answer-message2 .ensures)
-
-same-length-5 : tie.Need-same-length-5
-same-length-5 c = search needs
-
-returns-6 : tie.Need-returns-6
-unfolding ordered
-returns-6 c =
-    let a = c .before .before .before .before .before .before .before .before .before .args in
-    by-order (a .b) (a .line .now) (sym (c .before .before .before .before .before .before .order-of .ensures) ∙ c .before .before .before .before .enum-told6 .given .1) (c .before .before .answer-message3 .ensures)
-
-same-length-6 : tie.Need-same-length-6
-same-length-6 c = search needs
-
-returns-7 : tie.Need-returns-7
-unfolding ordered
-returns-7 c =
-    let a = c .before .before .before .before .before .before .before .before .before .args in
-    by-order (a .b) (a .line .now) (sym (c .before .before .before .before .before .before .order-of .ensures) ∙ c .before .before .before .before .enum-told7 .given .1) (c .before .before .answer-udp .ensures)
-
-same-length-7 : tie.Need-same-length-7
-same-length-7 c = search needs
-
-returns-8 : tie.Need-returns-8
-unfolding ordered
-returns-8 c =
-    let a = c .before .before .before .before .before .before .before .before .before .args in
-    by-order (a .b) (a .line .now) (sym (c .before .before .before .before .before .before .order-of .ensures) ∙ c .before .before .before .before .enum-told8 .given .1) (c .before .before .answer-show .ensures)
-
-same-length-8 : tie.Need-same-length-8
-same-length-8 c = search needs
-
-returns-9 : tie.Need-returns-9
-unfolding ordered
-returns-9 c =
-    let a = c .before .before .before .before .before .before .before .before .before .args in
-    by-order (a .b) (a .line .now) (sym (c .before .before .before .before .before .before .order-of .ensures) ∙ c .before .before .before .before .enum-told9 .given .1) (c .before .before .answer-advert .ensures)
-
-same-length-9 : tie.Need-same-length-9
-same-length-9 c = search needs
-
-returns-10 : tie.Need-returns-10
-unfolding ordered
-returns-10 c =
-    let a = c .before .before .before .before .before .before .before .before .before .args in
-    by-order (a .b) (a .line .now) (sym (c .before .before .before .before .before .before .order-of .ensures) ∙ c .before .before .before .before .enum-told10 .given .1) (c .before .before .answer-write .ensures)
-
-same-length-10 : tie.Need-same-length-10
-same-length-10 c = search needs
-
-returns-11 : tie.Need-returns-11
-unfolding ordered
-returns-11 c =
-    let a = c .before .before .before .before .before .before .before .before .before .args in
-    by-order (a .b) (a .line .now) (sym (c .before .before .before .before .before .before .order-of .ensures) ∙ c .before .before .before .before .enum-told11 .given .1) (c .before .before .answer-sum .ensures)
+returns-2 : tie.Need-returns-2
+unfolding carriedOut
+returns-2 c =
+    let o = c .before .before .before .before .before .before in
+    let a = o .before .before .before .args in
+    by-order (a .s) (a .line .now) (sym (o .order-of .ensures) ∙ c .before .before .before .before .enum-told .given .1) (c .before .before .piece-line .ensures)
 
 pub answer-line-spec : {M : Type 1} → statement M
 answer-line-spec =
     tie.close
     (tie.spec
     order-of-requires
+    enum-known-order
+    box-line-requires
     enum-told
-    enum-told-2
-    slice-aggregate-say
-    say-requires
-    enum-told-3
-    answer-box-requires
-    enum-told-4
-    answer-message-requires
-    enum-told-5
-    answer-message-requires-2
-    enum-told-6
-    answer-message-requires-3
-    enum-told-7
-    answer-udp-requires
-    enum-told-8
-    answer-show-requires
-    enum-told-9
-    answer-advert-requires
-    enum-told-10
-    answer-write-requires
-    enum-told-11
-    answer-sum-requires
-    returns
+    piece-line-requires
     same-length
-    returns-2
+    returns
     same-length-2
-    returns-3
-    same-length-3
-    returns-4
-    same-length-4
-    returns-5
-    same-length-5
-    returns-6
-    same-length-6
-    returns-7
-    same-length-7
-    returns-8
-    same-length-8
-    returns-9
-    same-length-9
-    returns-10
-    same-length-10
-    returns-11)
+    returns-2)

@@ -75,6 +75,9 @@ part-is-asked-end-2 c = kinds-held (c .before .before .before .before .loop .i) 
 is-asked-requires : tie.Need-is-asked-requires Inv-loop μ-loop
 is-asked-requires c κs = search needs
 
+mul-result : tie.Need-mul-result Inv-loop μ-loop
+mul-result c = search needs
+
 array-copy-out-result : tie.Need-array-copy-out-result Inv-loop μ-loop
 array-copy-out-result c = search needs
 
@@ -128,6 +131,7 @@ order-in-spec =
     part-is-asked-start-2
     part-is-asked-end-2
     is-asked-requires
+    mul-result
     array-copy-out-result
     returns
     add-i

@@ -12,12 +12,12 @@ use Rattle.script_text.proofs.Puts.{puts-none, puts-end, puts-length}
 use Rattle.script_pieces.specs.Parts.{Takes}
 use Rattle.script_pieces.specs.declared.Part.{Part}
 use borrow.Rule.Slice.PartMut.{putMid}
-use Rattle.script_answers.specs.Answers.{Answers}
-use Rattle.script_answers.specs.declared.Answered.{Answered}
+use Rattle.script.specs.Answers.{Leaves}
+use Rattle.script.specs.declared.Left.{Left}
 use Rattle.script.specs.Answers.{answered}
 use Rattle.script_run.specs.declared.Progress.{Progress}
 use Rattle.script_run.specs.Lines.{partDone, RunsLine}
-use Rattle.script_run.proofs.Behind.{puts-behind}
+use Rattle.script_text.proofs.Behind.{puts-behind}
 use Rattle.script_run.proofs.run_line.Statement.{statement}
 use Rattle.script_run.proofs.run_line.Tie as tie
 
@@ -32,21 +32,21 @@ unfolding partDone
 begun {piece} {store} {store′} {area} p {part} t e = record {
   part = part;
   part-is = t;
-  box-is = rw e refl;
+  held-is = rw e refl;
   text-is = rw e (puts-none area (p .len));
   kept-is = rw e refl;
   next-is = refl;
 }
 
 -- the line ended: it is answered, and its text is put behind the others
-ended : {piece store store′ area area′ : List ℕ} (p : Progress) {part : Part} {a : Answered} → p .len ≤ length area → Takes piece (p .next) (p .kept) store part store′ → part .ended ≡ true
-    → Answers (answered (p .held) (take (part .kept) store′)) a (take (length area - p .len) (drop (p .len) area)) area′
+ended : {piece store store′ area area′ : List ℕ} (p : Progress) {part : Part} {a : Left} → p .len ≤ length area → Takes piece (p .next) (p .kept) store part store′ → part .ended ≡ true
+    → Leaves (answered (p .held) (take (part .kept) store′)) a (take (length area - p .len) (drop (p .len) area)) area′
     → RunsLine p piece store area (record { held = a .after; kept = 0; next = part .next; len = p .len + a .len }) store′ (putMid (p .len) (length area - p .len) area area′)
 unfolding partDone
 ended {piece} {store} {store′} {area} p {part} h t e q = record {
   part = part;
   part-is = t;
-  box-is = rw e (q .box-is);
+  held-is = rw e (q .held-is);
   text-is = rw e (puts-behind area (p .len) h (q .text-is));
   kept-is = rw e refl;
   next-is = refl;

@@ -1,30 +1,25 @@
--- `start` makes a box of nothing asked for, which is refused with the box of no panels.
+-- `start` holds the box of no panels and eight times the empty receiver.
 use borrow.Author.Needs.{needs}
-use mathlib.Core.Path.{_≡_, refl, ap, _∙_}
-use mathlib.Core.List.{[]}
-use Rattle.panels.specs.Valid.{valid}
-use Rattle.configure.specs.Configure.{asked, refusal, configured}
-use Rattle.configure.specs.declared.Configured.{Configured}
+use mathlib.Core.Path.{ap, _∙_}
+use lib.ListN.{replicate}
+use Rattle.panels.specs.Records.{noBox}
+use Rattle.panels.specs.declared.DisplayBox.{DisplayBox}
+use Rattle.receiver.specs.declared.Receiver.{Receiver}
+use Rattle.script.specs.Answers.{atStart}
 use Rattle.script_run.proofs.start.Statement.{statement}
 use Rattle.script_run.proofs.start.Tie as tie
 
-nothing-asked : configured [] ≡ refusal
-unfolding configured asked valid
-nothing-asked = refl
+no-panels-requires : tie.Need-no-panels-requires
+no-panels-requires c κs = search needs
 
-array-share-prefix-empty : tie.Need-array-share-prefix-empty
-array-share-prefix-empty c = search needs
-
-slice-aggregate-configure : tie.Need-slice-aggregate-configure
-slice-aggregate-configure c = search needs
-
-configure-requires : tie.Need-configure-requires
-configure-requires c κs = search needs
+empty-receiver-requires : tie.Need-empty-receiver-requires
+empty-receiver-requires c κs = search needs
 
 returns : tie.Need-returns
-returns c = ap (λ (r : Configured). r .made) (c .before .configure .ensures ∙ nothing-asked)
+unfolding atStart
+returns c =
+    ap (λ (b : DisplayBox). record { made = b; receivers = replicate 8 (c .empty-receiver .result) }) (c .before .no-panels .ensures)
+    ∙ ap (λ (r : Receiver). record { made = noBox; receivers = replicate 8 r }) (c .empty-receiver .ensures)
 
 pub start-spec : {M : Type 1} → statement M
-start-spec =
-    tie.close
-    (tie.spec array-share-prefix-empty slice-aggregate-configure configure-requires returns)
+start-spec = tie.close (tie.spec no-panels-requires empty-receiver-requires returns)

@@ -2,7 +2,8 @@
 //!
 //! - `generate SEED ORDERS` writes a random script of that many orders; the same seed gives the
 //!   same script, always and everywhere.
-//! - `generate sweep` writes the fixed script that walks every small range of document 01.
+//! - `generate sweep` writes the fixed script that walks every small range of document 01, and
+//!   streams in pieces (document 02, §1).
 //!
 //! The generator knows what document 01 accepts, so that most of its messages get past the first
 //! checks; it does not know, and does not use, what the answers are.
@@ -12,6 +13,7 @@ mod random;
 mod rng;
 mod sweep;
 mod unread;
+mod wire;
 mod words;
 
 use std::env;
@@ -48,8 +50,7 @@ mod tests {
     fn answered(script: &[u8]) -> Vec<(String, String)> {
         let mut output = Vec::new();
         second::script::run(script, &mut output).unwrap();
-        let output = String::from_utf8(output).unwrap();
-        let answers: Vec<&str> = output.lines().collect();
+        let answers = answers(&String::from_utf8(output).unwrap());
         let orders: Vec<&[u8]> = script
             .split(|byte| *byte == b'\n')
             .filter(|line| line.first().is_some_and(|byte| *byte != b'#'))
@@ -58,19 +59,70 @@ mod tests {
         orders
             .iter()
             .map(|order| String::from_utf8_lossy(order).into_owned())
-            .zip(answers.iter().map(|answer| answer.to_string()))
+            .zip(answers)
             .collect()
+    }
+
+    /// The answers in an output, a line each but for `piece`: its first line is a `packet` or
+    /// `held`, and its last is `held`.
+    fn answers(output: &str) -> Vec<String> {
+        let mut answers: Vec<String> = Vec::new();
+        let mut goes_on = false;
+        for line in output.lines() {
+            match answers.last_mut() {
+                Some(answer) if goes_on => {
+                    answer.push('\n');
+                    answer.push_str(line);
+                }
+                _ => answers.push(line.to_string()),
+            }
+            goes_on = line.starts_with("packet ") || goes_on && !line.starts_with("held ");
+        }
+        answers
     }
 
     /// Which ways in got which answer numbers.
     fn reached(answered: &[(String, String)]) -> BTreeSet<(&str, &str)> {
-        answered
+        let lines = answered
             .iter()
-            .filter_map(|(order, answer)| {
-                let number = answer.strip_prefix("answer ")?.get(..1)?;
+            .flat_map(|(order, answer)| answer.lines().map(move |line| (order, line)));
+        lines
+            .filter_map(|(order, line)| {
+                let number = line.strip_prefix("answer ")?.get(..1)?;
                 Some((order.split(' ').next()?, number))
             })
             .collect()
+    }
+
+    /// How many packets each piece that was read handed out, and what was held then.
+    fn pieces(answered: &[(String, String)]) -> Vec<(usize, usize)> {
+        let pieces = answered
+            .iter()
+            .filter(|(order, answer)| order.starts_with("piece ") && answer != "unread");
+        pieces
+            .map(|(_, answer)| {
+                let (_, held) = answer.rsplit_once("held ").unwrap();
+                (answer.lines().count() / 2, held.parse().unwrap())
+            })
+            .collect()
+    }
+
+    /// Pieces with no packet, one and several, that leave nothing, a part of the front, a part of
+    /// the header, of the data, and all of the longest packet but its last byte.
+    fn every_kind_of_piece_is_there(answered: &[(String, String)]) {
+        let pieces = pieces(answered);
+        for packets in [0..1, 1..2, 2..3, 3..100] {
+            for held in [0..1, 1..6, 6..13, 13..500] {
+                let there =
+                    |piece: &(usize, usize)| packets.contains(&piece.0) && held.contains(&piece.1);
+                assert!(
+                    pieces.iter().any(there),
+                    "{packets:?} packets, {held:?} held"
+                );
+            }
+        }
+        assert!(pieces.iter().any(|(_, held)| *held == 511));
+        assert!(pieces.iter().all(|(_, held)| *held < 512));
     }
 
     /// Every answer number that document 01 has for each way in.
@@ -78,6 +130,8 @@ mod tests {
         let numbers = [
             ("rs232", "0123456"),
             ("tcp", "0123456"),
+            // What a receiver hands out has 13 bytes at least.
+            ("piece", "012456"),
             ("udp", "03456"),
             ("kjw", "012346"),
             ("advert", "0345"),
@@ -112,12 +166,31 @@ mod tests {
     }
 
     #[test]
+    fn a_random_script_has_pieces_of_every_kind() {
+        let answered = answered(&random::script(3, 20_000));
+        every_kind_of_piece_is_there(&answered);
+        let is_piece = |order: &&(String, String)| order.0.starts_with("piece ");
+        let share = answered.iter().filter(is_piece).count() * 1000 / answered.len();
+        assert!((45..80).contains(&share), "{share} of 1000 orders");
+        for link in 0..=9 {
+            let word = format!("piece {link} ");
+            let unread: BTreeSet<bool> = answered
+                .iter()
+                .filter(|(order, _)| order.starts_with(&word))
+                .map(|(_, answer)| answer == "unread")
+                .collect();
+            assert!(unread.contains(&!(1..=8).contains(&link)), "link {link}");
+        }
+    }
+
+    #[test]
     fn the_sweep_reaches_every_answer() {
         let answered = answered(&sweep::script());
-        assert!(answered.len() < 60_000);
+        assert!(answered.len() < sweep::MOST_ORDERS);
         assert_eq!(reached(&answered), every_answer());
+        every_kind_of_piece_is_there(&answered);
         assert!(answered
             .iter()
-            .all(|(_, answer)| !answer.ends_with("spoiled")));
+            .all(|(_, answer)| !answer.contains("spoiled")));
     }
 }

@@ -51,6 +51,10 @@ impl Script {
         self.line(format!("udp {}", hex(message)));
     }
 
+    pub fn piece(&mut self, link: u64, area: usize, piece: &[u8]) {
+        self.line(format!("piece {link} {area} {}", hex(piece)));
+    }
+
     pub fn show(&mut self, link: u64) {
         self.line(format!("show {link}"));
     }

@@ -6,6 +6,7 @@ use crate::make::{
 };
 use crate::rng::Rng;
 use crate::unread;
+use crate::wire;
 use crate::words;
 
 /// A panel as the generator remembers it.
@@ -16,10 +17,14 @@ struct Panel {
     unit: u8,
 }
 
-/// The light model: what panels the box has, if it took the last `box`.
+/// The light model: what panels the box has, if it took the last `box`, and what waits on the wires
+/// of links 1 to 8.
 struct Console {
     rng: Rng,
     panels: Vec<Panel>,
+    wires: [Vec<u8>; 8],
+    /// Chance for the pieces alone: so a seed gives all other orders as it would without them.
+    rng_of_wires: Rng,
     script: Script,
     no_orders: Vec<Vec<u8>>,
     bad_writes: Vec<String>,
@@ -30,6 +35,8 @@ pub fn script(seed: u64, orders: usize) -> Vec<u8> {
     let mut console = Console {
         rng: Rng::new(seed),
         panels: Vec::new(),
+        wires: Default::default(),
+        rng_of_wires: Rng::new(!seed),
         script: Script::of_at_most(orders),
         no_orders: unread::lines(),
         bad_writes: unread::bad_write_lines(),
@@ -56,6 +63,11 @@ const CONNECTORS: [u8; 20] = [
 
 impl Console {
     fn next(&mut self) {
+        if self.rng_of_wires.below(100) < 7 {
+            std::mem::swap(&mut self.rng, &mut self.rng_of_wires);
+            self.pieces();
+            std::mem::swap(&mut self.rng, &mut self.rng_of_wires);
+        }
         if self.panels.is_empty() && !self.rng.once_in(5) || self.rng.once_in(50) {
             return self.new_box();
         }
@@ -422,6 +434,56 @@ impl Console {
             self.show_all();
         } else {
             self.look(link);
+        }
+    }
+
+    /// One piece, or some in a row.
+    fn pieces(&mut self) {
+        for _ in 0..self.rng.pick(&[1, 1, 2, 3]) {
+            self.piece();
+        }
+    }
+
+    fn piece(&mut self) {
+        let area = self.area();
+        if self.rng.once_in(20) {
+            let link = self.rng.pick(&[0, 9, 10, 255, 257, 4_294_967_295]);
+            let (group, unit) = self.pair_for_tcp();
+            return self
+                .script
+                .piece(link, area, &packet(group, unit, b"STATset LED ON"));
+        }
+        let link = self.link_of_a_wire();
+        while self.wires[link - 1].is_empty() || self.rng.once_in(3) {
+            let (group, unit) = self.pair_for_tcp();
+            let mut message = packet(group, unit, &words::text(&mut self.rng));
+            if self.rng.once_in(12) {
+                self.spoil_packet(&mut message);
+            }
+            self.wires[link - 1].extend(wire::stretch(&mut self.rng, message));
+        }
+        let length = wire::cut(&mut self.rng, self.wires[link - 1].len());
+        let piece: Vec<u8> = self.wires[link - 1].drain(..length).collect();
+        self.script.piece(link as u64, area, &piece);
+        if self.rng.once_in(6) {
+            self.script.show(link as u64);
+        }
+    }
+
+    /// Mostly a wire on which something waits, or that of a W panel.
+    fn link_of_a_wire(&mut self) -> usize {
+        let waiting: Vec<usize> = (1..=8)
+            .filter(|link| !self.wires[link - 1].is_empty())
+            .collect();
+        let link = if waiting.is_empty() || self.rng.once_in(2) {
+            self.link('W') as usize
+        } else {
+            self.rng.pick(&waiting)
+        };
+        if (1..=8).contains(&link) {
+            link
+        } else {
+            1 + self.rng.below(8)
         }
     }
 

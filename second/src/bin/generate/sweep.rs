@@ -1,26 +1,30 @@
-//! The sweep: a fixed script that walks every small range of document 01.
+//! The sweep: a fixed script that walks every small range of document 01, and pieces cut anywhere.
 
 use crate::make::{
     advert_of_000, close, frame, full_advert, hashes_behind, hex, packet, serial, zeros_before,
     Script, WriteWords, ADVERT_TEXTS,
 };
 use crate::unread;
+use crate::wire;
 use crate::words::{good_texts, names, CHOICES, LEVELS, SHIFTS, STRANGERS, SWITCHES};
 
 /// The links of [`HOUSE`].
-const W: u64 = 1;
-const K: u64 = 4;
-const PANELS: usize = 5;
+pub const W: u64 = 1;
+pub const K: u64 = 4;
+pub const PANELS: usize = 5;
 
 /// Panels 1 and 2 share a group, panel 3 has their numbers the other way round.
-const HOUSE: &str = "box W 1 2 W 1 3 W 2 1 K 0 0 K 0 0";
+pub const HOUSE: &str = "box W 1 2 W 1 3 W 2 1 K 0 0 K 0 0";
+
+/// More than the sweep has.
+pub const MOST_ORDERS: usize = 70_000;
 
 /// A part of the sweep: its title, and what writes it.
 type Part = (&'static str, fn(&mut Script));
 
 pub fn script() -> Vec<u8> {
-    let mut script = Script::of_at_most(60_000);
-    let parts: [Part; 21] = [
+    let mut script = Script::of_at_most(MOST_ORDERS);
+    let parts: [Part; 26] = [
         ("before any box", before_any_box),
         ("boxes, good and bad", boxes),
         ("links and areas", links_and_areas),
@@ -36,6 +40,11 @@ pub fn script() -> Vec<u8> {
         ("VMC: every setting with every value", settings),
         ("VMC: numbers that are none", numbers),
         ("VMC: near misses of every word", near_misses),
+        ("off the wire: links and areas", wire::links_and_areas),
+        ("off the wire: every cut", wire::cuts),
+        ("off the wire: every byte of the header", wire::headers),
+        ("off the wire: the lengths", wire::lengths),
+        ("off the wire: fronts that are none", wire::near_fronts),
         ("KJW: every place of the frame", frame_places),
         ("KJW: every setting with every value", frame_values),
         ("adverts read", adverts_read),
@@ -57,6 +66,8 @@ fn before_any_box(script: &mut Script) {
         script.tcp(link, 512, &packet(0, 0, b"STATget LED"));
         script.kjw(link, 512, &frame(b'E', b"POWR", &[b'#'; 16]));
         script.tcp(link, 511, &[]);
+        script.piece(link, 512, &packet(0, 0, b"STATget LED"));
+        script.piece(link, 511, &packet(0, 0, b"STATget LED")[..20]);
     }
     let all = packet(255, 255, b"STATset LED ON");
     for length in 0..=all.len() {

@@ -17,7 +17,7 @@ pub fn long_write_line(length: usize) -> Vec<u8> {
 
 /// Lines that try every rule of the script language, once each.
 pub fn lines() -> Vec<Vec<u8>> {
-    let texts: [&[u8]; 112] = [
+    let texts: [&[u8]; 124] = [
         b" ",
         b"  ",
         b"-",
@@ -120,7 +120,19 @@ pub fn lines() -> Vec<Vec<u8>> {
         b"sum 0 0",
         b"sum 00 00",
         b"write",
+        b"piece",
+        b"piece 1",
+        b"piece 1 512",
         b"piece 1 512 -",
+        b"piece 1 512 - -",
+        b"piece 1 512 0",
+        b"piece 1 512 030B5",
+        b"piece 1 1025 -",
+        b"piece 01 512 -",
+        b"piece 0 512 -",
+        b"piece 9 512 -",
+        b"Piece 1 512 -",
+        b"pieces 1 512 -",
         b"plain -",
         b"busy 1",
         b"free 1",
@@ -143,6 +155,7 @@ pub fn lines() -> Vec<Vec<u8>> {
             "tcp 1 512 ",
             "rs232 1 512 ",
             "kjw 1 512 ",
+            "piece 1 512 ",
         ] {
             lines.push([order.as_bytes().to_vec(), vec![b'0'; digits]].concat());
         }

@@ -1,0 +1,11 @@
+pub mod Stream
+pub mod Reading
+pub mod Front
+pub mod Calls
+pub mod Pieces
+pub mod Cutting
+pub mod Search
+pub mod Parts
+pub mod Taking
+pub mod Determined
+pub mod Examples

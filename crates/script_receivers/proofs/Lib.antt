@@ -1,0 +1,4 @@
+pub mod Calls
+pub mod Determined
+pub mod Examples
+pub mod Feeding
