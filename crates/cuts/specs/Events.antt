@@ -18,15 +18,15 @@ abbrev pub withReceiver : ℕ → Receiver → (ℕ → Receiver) → ℕ → Re
 withReceiver l r rs k = cond (eqb k l) r (rs k)
 
 -- the packets that were handed out on a link as messages, from the k-th area on
-abbrev pub byTcp : ℕ → (ℕ → List ℕ) → ℕ → List (List ℕ) → List Message
-byTcp l areas k [] = []
-byTcp l areas k (o ∷ os) = tcp l o (areas k) ∷ byTcp l areas (suc k) os
+abbrev pub asMessages : ℕ → (ℕ → List ℕ) → ℕ → List (List ℕ) → List Message
+asMessages l areas k [] = []
+asMessages l areas k (o ∷ os) = tcp l o (areas k) ∷ asMessages l areas (suc k) os
 
 -- the messages after the cutting
 abbrev pub messagesIn : (ℕ → Receiver) → List Event → List Message
 messagesIn rs [] = []
 messagesIn rs (message m ∷ es) = m ∷ messagesIn rs es
-messagesIn rs (piece l p areas ∷ es) = byTcp l areas 0 (fed (rs l) p .packets) ++ messagesIn (withReceiver l (fed (rs l) p .after) rs) es
+messagesIn rs (piece l p areas ∷ es) = asMessages l areas 0 (fed (rs l) p .packets) ++ messagesIn (withReceiver l (fed (rs l) p .after) rs) es
 
 -- and the receivers
 abbrev pub receiversAfter : (ℕ → Receiver) → List Event → ℕ → Receiver

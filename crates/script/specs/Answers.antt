@@ -18,7 +18,7 @@ use Rattle.script_orders.specs.Orders.{ordered}
 use Rattle.script.specs.declared.Held.{Held}
 use Rattle.script.specs.declared.Left.{Left}
 
--- "A script starts with a box of no panels", and with "empty receivers"
+-- "A script starts with a box of no panels, and with empty receivers."
 unfoldable pub atStart : Held
 atStart = record { made = noBox; receivers = replicate mostLink (holding []) }
 
@@ -27,13 +27,13 @@ pub record LineEffect : Type 0 where
   pub held : Held
   pub text : List ℕ
 
--- an order on the box leaves the receivers: "`box` leaves them"
+-- an order on the box, as `box`, "leaves the receivers alone"
 unfoldable pub onBox : Held → Effect → LineEffect
 onBox s o = record { held = record { made = o .box; receivers = s .receivers }; text = o .text }
 
 -- "the receiver of TCP link LINK (1 to 8)": link less 1 is its place
-abbrev pub placeIn : List ℕ → ℕ
-placeIn line = numberAt mostLink 1 line - 1
+abbrev pub linkPlace : List ℕ → ℕ
+linkPlace line = numberAt mostLink 1 line - 1
 
 abbrev pub receiverAt : ℕ → Held → Receiver
 receiverAt i s = getD (s .receivers) i (record { held = 0; store = [] })
@@ -45,7 +45,7 @@ onLink i s o = record { held = record { made = o .box; receivers = set (s .recei
 -- what each order does and writes
 unfoldable pub carriedOut : Order → Held → List ℕ → LineEffect
 carriedOut (OnBox o) s line = onBox s (ordered o (s .made) line)
-carriedOut Piece s line = onLink (placeIn line) s (piecedBy (s .made) (receiverAt (placeIn line) s) line)
+carriedOut Piece s line = onLink (linkPlace line) s (piecedBy (s .made) (receiverAt (linkPlace line) s) line)
 
 unfoldable pub answered : Held → List ℕ → LineEffect
 answered s line = carriedOut (orderOf line) s line

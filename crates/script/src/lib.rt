@@ -6,16 +6,14 @@ use script_lines::BoxOrder;
 use script_lines::Order;
 use script_lines::order_of;
 use script_orders::answer_order;
+use script_receivers::LINKS;
 use script_receivers::answer_piece;
 use script_words::number_at;
 ghost use mathlib.Core.Path.{_≡_};
 ghost use Prim.Native.Nat.{_<_};
 ghost use Rattle.script_receivers.specs.Receivers.{piecedBy};
 ghost use Rattle.script_orders.specs.Orders.{ordered};
-ghost use Rattle.script.specs.Answers.{placeIn, receiverAt, onBox, onLink, answered, Leaves};
-
-// The links that have a receiver.
-const LINKS: u32 = 8;
+ghost use Rattle.script.specs.Answers.{linkPlace, receiverAt, onBox, onLink, answered, Leaves};
 
 // What a script holds: the box, and a receiver for each TCP link.
 pub struct Held {
@@ -46,7 +44,7 @@ fn box_line(order: BoxOrder, s: Held, line: &[u8], out: &mut [u8]) -> Left
 
 // The place of the receiver that a line's piece is for.
 fn place_in(line: &[u8]) -> usize
-    ensures { λ r. ⌜ (r ≡ placeIn (now (line .entry))) × (r < 8) ⌝ }
+    ensures { λ r. ⌜ (r ≡ linkPlace (now (line .entry))) × (r < 8) ⌝ }
 {
     let link = number_at(line, 1, LINKS) as usize;
     if link == 0 {
@@ -57,7 +55,7 @@ fn place_in(line: &[u8]) -> usize
 
 // A piece for a receiver.
 fn piece_line(s: Held, line: &[u8], out: &mut [u8]) -> Left
-    ensures { λ r. ⌜ Leaves (onLink (placeIn (now (line .entry))) s (piecedBy (s .made) (receiverAt (placeIn (now (line .entry))) s) (now (line .entry)))) r (now (out .entry)) (now (out .exit)) ⌝ }
+    ensures { λ r. ⌜ Leaves (onLink (linkPlace (now (line .entry))) s (piecedBy (s .made) (receiverAt (linkPlace (now (line .entry))) s) (now (line .entry)))) r (now (out .entry)) (now (out .exit)) ⌝ }
 {
     let b = s.made;
     let mut receivers = s.receivers;

@@ -21,7 +21,7 @@ use Rattle.steps.specs.Run.{run}
 use Rattle.script_text.specs.Puts.{Puts}
 use Rattle.script_text.specs.Texts.{numberText}
 use Rattle.script_text.proofs.Puts.{Underway, under-first, under-next, under-none, puts-as, puts-end, puts-length, puts-then}
-use Rattle.script_receivers.specs.Receivers.{byTcp, packeted, packetsText, heldText, pieced, Links}
+use Rattle.script_receivers.specs.Receivers.{packetMessage, packeted, packetsText, heldText, pieced, Links}
 use Rattle.script_receivers.specs.Calls.{handedOn, calledBy, CallsOnce, packetsDone}
 use Rattle.script_receivers.specs.declared.Between.{Between}
 use Rattle.script_receivers.specs.declared.Linked.{Linked}
@@ -44,7 +44,7 @@ first (x ∷ packet) rest = andThat (x ∷ packet) rest
 
 module _ (link : ℕ) (area : List ℕ) where
   abbrev messages : Fed → List Message
-  messages o = map (byTcp link area) (o .packets)
+  messages o = map (packetMessage link area) (o .packets)
 
   first-box : (b : DisplayBox) (packet : List ℕ) (rest : Fed) → run b (messages (first packet rest)) ≡ run (handedOn link area b packet .box) (messages rest)
   unfolding handedOn packeted

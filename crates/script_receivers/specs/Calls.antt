@@ -11,7 +11,7 @@ use Rattle.receiver.specs.Pieces.{fed}
 use Rattle.steps.specs.Run.{run}
 use Rattle.script_text.specs.Puts.{Puts}
 use Rattle.script_answers.specs.Answers.{Effect}
-use Rattle.script_receivers.specs.Receivers.{LinkEffect, byTcp, packeted, packetsText}
+use Rattle.script_receivers.specs.Receivers.{LinkEffect, packetMessage, packeted, packetsText}
 use Rattle.script_receivers.specs.declared.Between.{Between}
 
 -- what is handed out goes to the box; nothing does nothing
@@ -34,7 +34,7 @@ pub record CallsOnce (link : ℕ) (area : List ℕ) (f : Between) (piece out : L
 -- all packets of a piece
 unfoldable pub packetsDone : ℕ → List ℕ → DisplayBox → Receiver → List ℕ → LinkEffect
 packetsDone link area b r piece = record {
-  box = run b (map (byTcp link area) (fed r piece .packets));
+  box = run b (map (packetMessage link area) (fed r piece .packets));
   receiver = fed r piece .after;
   text = packetsText link area b (fed r piece .packets);
 }

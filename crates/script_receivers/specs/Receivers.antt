@@ -18,21 +18,21 @@ use Rattle.script_messages.specs.Messages.{stepped}
 use Rattle.script_receivers.specs.declared.Linked.{Linked}
 
 -- "each packet goes to the box as by `tcp LINK AREA` at once"
-abbrev pub byTcp : ℕ → List ℕ → List ℕ → Message
-byTcp link area packet = tcp link packet area
+abbrev pub packetMessage : ℕ → List ℕ → List ℕ → Message
+packetMessage link area packet = tcp link packet area
 
--- "it writes for each packet `packet HEX` and the line that `tcp LINK AREA` would write"
+-- "for each packet `packet HEX` and the line that `tcp` would write"
 unfoldable pub packeted : ℕ → List ℕ → DisplayBox → List ℕ → Effect
 packeted link area b packet = record {
-  box = step b (byTcp link area packet) .box;
-  text = bytesText (ascii "packet ") packet ++ (0x0a ∷ []) ++ stepped (step b (byTcp link area packet)) .text;
+  box = step b (packetMessage link area packet) .box;
+  text = bytesText (ascii "packet ") packet ++ (0x0a ∷ []) ++ stepped (step b (packetMessage link area packet)) .text;
 }
 
 unfoldable pub packetsText : ℕ → List ℕ → DisplayBox → List (List ℕ) → List ℕ
 packetsText link area b [] = []
 packetsText link area b (packet ∷ packets) = packeted link area b packet .text ++ packetsText link area (packeted link area b packet .box) packets
 
--- "then `held N`, N the bytes that the receiver keeps"
+-- "then `held N`, the bytes that the receiver keeps"
 abbrev pub heldText : Receiver → List ℕ
 heldText r = numberText (ascii "held ") (r .held) ++ (0x0a ∷ [])
 
@@ -42,10 +42,10 @@ pub record LinkEffect : Type 0 where
   pub receiver : Receiver
   pub text : List ℕ
 
--- "a piece to the receiver of TCP link LINK, called until a call hands out nothing"
+-- "a piece to the receiver of TCP link LINK (1 to 8), called until a call hands out nothing"
 unfoldable pub pieced : ℕ → List ℕ → DisplayBox → Receiver → List ℕ → LinkEffect
 pieced link area b r piece = record {
-  box = run b (map (byTcp link area) (fed r piece .packets));
+  box = run b (map (packetMessage link area) (fed r piece .packets));
   receiver = fed r piece .after;
   text = packetsText link area b (fed r piece .packets) ++ heldText (fed r piece .after);
 }

@@ -19,7 +19,7 @@ ghost use Rattle.script_receivers.specs.Receivers.{packeted, pieced, pie
 ghost use Rattle.script_receivers.specs.Calls.{CallsOnce, packetsDone};
 
 // The links that have a receiver.
-const LINKS: u32 = 8;
+pub const LINKS: u32 = 8;
 
 // What a piece did: box and receiver after it, and the length of its text.
 pub struct Linked {

@@ -26,7 +26,7 @@ use Rattle.script_lines.specs.declared.Order.the-variants.{OnBox, Piece}
 use Rattle.script_text.specs.Texts.{numberText}
 use Rattle.script_answers.specs.Answers.{writes, filler}
 use Rattle.script_messages.specs.Messages.{stepped}
-use Rattle.script_receivers.specs.Receivers.{byTcp, packeted, packetsText, pieced, piecedBy}
+use Rattle.script_receivers.specs.Receivers.{packetMessage, packeted, packetsText, pieced, piecedBy}
 use Rattle.script.specs.Answers.{onBox, onLink, carriedOut, answered}
 use Rattle.script.specs.declared.Held.{Held}
 use Rattle.script_room.specs.Room.{room}
@@ -59,8 +59,8 @@ module _ (link : ℕ) (area : List ℕ) where
   packet-fits : (b : DisplayBox) (packet : List ℕ) → 13 ≤ length packet → length (packeted link area b packet .text) ≤ 13 * length packet
   unfolding packeted stepped writes
   packet-fits b packet h =
-      let o = step b (byTcp link area packet) in
-      let n = step-replies b (byTcp link area packet) in
+      let o = step b (packetMessage link area packet) in
+      let n = step-replies b (packetMessage link area packet) in
       let s = replied-short (o .answer) (o .back .len) (o .back .area) in
       let t = told-fits (ascii "packet ") packet in
       simp length-append (omega (arith, h, n, s, t))

@@ -13,7 +13,7 @@ use Rattle.script_text.proofs.Behind.{puts-behind}
 use Rattle.script_write.proofs.Lent.{throughout, throughout-length}
 use Rattle.script_answers.specs.Answers.{writes}
 use Rattle.script_messages.specs.Messages.{stepped}
-use Rattle.script_receivers.specs.Receivers.{byTcp, packeted}
+use Rattle.script_receivers.specs.Receivers.{packetMessage, packeted}
 use Rattle.script_receivers.proofs.say_packet.Statement.{statement}
 use Rattle.script_receivers.proofs.say_packet.Tie as tie
 
@@ -83,7 +83,7 @@ returns c =
     let z = y .before .before .before .before .before in
     let a = z .before .before .before .before .before .args in
     let o = x .carry .ensures in
-    let lent = ap (λ (l : List ℕ). step (a .b) (byTcp (a .link) l (a .packet .now))) (throughout (a .room) 1024 165 (z .before .before .before .before .before .pre)) in
+    let lent = ap (λ (l : List ℕ). step (a .b) (packetMessage (a .link) l (a .packet .now))) (throughout (a .room) 1024 165 (z .before .before .before .before .before .pre)) in
     record {
       box-is = o .box-is ∙ ap (λ (s : Outcome). s .box) lent;
       text-is = all (z .put-bytes-text .ensures) (y .put .ensures) (puts-as (ap (λ (s : Outcome). stepped s .text) lent) (o .text-is));
