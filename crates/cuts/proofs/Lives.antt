@@ -9,10 +9,11 @@ use lib.Dec.{eqb}
 use lib.ListN.{length}
 use borrow.Author.Tests.{eq-eqb}
 use Rattle.panels.specs.declared.DisplayBox.{DisplayBox}
+use Rattle.configure.specs.Configure.{configured}
 use Rattle.steps.specs.Messages.{Message, tcp, names}
 use Rattle.steps.specs.Step.{panelAt, step}
 use Rattle.steps.specs.Run.{run, kept, replies}
-use Rattle.steps.proofs.Alone.{demand-3}
+use Rattle.steps.proofs.Alone.{eight-places, demand-3}
 use Rattle.receiver.specs.declared.Receiver.{Receiver}
 use Rattle.receiver.specs.Pieces.{Fed, fed}
 use Rattle.receiver.proofs.Pieces.{feeds-one, fed-feeds}
@@ -27,6 +28,13 @@ pub demand-3-cut : (b : DisplayBox) (i : ℕ) (rs rs′ : ℕ → Receiver) (es 
     → kept i (names b) (messagesIn rs es) ≡ kept i (names b) (messagesIn rs′ es′)
     → (panelAt i (run b (messagesIn rs es)) ≡ panelAt i (run b (messagesIn rs′ es′))) × (replies i b (messagesIn rs es) ≡ replies i b (messagesIn rs′ es′))
 demand-3-cut b i rs rs′ es es′ h k = demand-3 b i (messagesIn rs es) (messagesIn rs′ es′) h k
+
+-- the same of every box that a configuration gives, and of each of its eight places
+pub demand-3-cut-configured : (c : List ℕ) (i : ℕ) (rs rs′ : ℕ → Receiver) (es es′ : List Event) → i < 8
+    → kept i (names (configured c .made)) (messagesIn rs es) ≡ kept i (names (configured c .made)) (messagesIn rs′ es′)
+    → (panelAt i (run (configured c .made) (messagesIn rs es)) ≡ panelAt i (run (configured c .made) (messagesIn rs′ es′)))
+    × (replies i (configured c .made) (messagesIn rs es) ≡ replies i (configured c .made) (messagesIn rs′ es′))
+demand-3-cut-configured c i rs rs′ es es′ h k = demand-3-cut (configured c .made) i rs rs′ es es′ (rw (eight-places c) h) k
 
 -- ---- a piece is a run over its packets
 

@@ -7,11 +7,12 @@ use lib.ListN.{length}
 use Rattle.laws.proofs.Lists.{same-self}
 use Rattle.terms.specs.Answers.{numberOf}
 use Rattle.panels.specs.declared.DisplayBox.{DisplayBox}
+use Rattle.configure.specs.Configure.{configured}
 use Rattle.steps.specs.Messages.{Message, rs232c, kjw, tcp, udp, names}
 use Rattle.steps.specs.Addressing.{addressed}
 use Rattle.steps.specs.Step.{panelAt, step}
 use Rattle.steps.specs.Run.{Got, gotBy, run, kept, replies}
-use Rattle.steps.proofs.Alone.{demand-3}
+use Rattle.steps.proofs.Alone.{eight-places, demand-3}
 use Rattle.steps.proofs.Validity.{names-kept}
 use Rattle.host_box.specs.Called.{wayOf, calledBy, called}
 use Rattle.host_box.specs.Life.{Call, afterCall, life, andBy, andThat, messagesOf, isForBy, CallGot, with-area, without-area, gotThrough, gots}
@@ -95,3 +96,9 @@ lives-alone b i ks ls h e =
           ∙ ap (toldAll (kept i (names b) (messagesOf ls))) (same .1)
           ∙ sym (gots-told i ls b),
     )
+
+-- the same of every box that a configuration gives, and of each of its eight places
+pub lives-alone-configured : (c : List ℕ) (i : ℕ) (ks ls : List Call) → i < 8
+    → kept i (names (configured c .made)) (messagesOf ks) ≡ kept i (names (configured c .made)) (messagesOf ls)
+    → (panelAt i (life (configured c .made) ks) ≡ panelAt i (life (configured c .made) ls)) × (gots i (configured c .made) ks ≡ gots i (configured c .made) ls)
+lives-alone-configured c i ks ls h e = lives-alone (configured c .made) i ks ls (rw (eight-places c) h) e
