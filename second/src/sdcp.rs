@@ -59,7 +59,8 @@ fn read(held: &mut DisplayBox, way: WayIn, bytes: &[u8]) -> Reading {
     if !envelope_is_good(bytes) {
         return Reading::refused(Answer::EnvelopeWrong);
     }
-    // "The data area, from byte 13 to its end, is read as it stands."
+    // "The data area, from byte 13 to its end, is read", without what a console put behind its words
+    // (document 02, §2). The envelope was judged on the data as it was sent.
     let Some(order) = vmc::read(&bytes[HEADER..]) else {
         return Reading::refused(Answer::NotUnderstood);
     };

@@ -1,7 +1,7 @@
 //! Document 01, "SDCP and VMC (001, 002, 004)": the words in the data area.
 //!
-//! "Words are capitals-sensitive with one space between; a trailing space or 00h makes it not
-//! understood. A word that should be a number and is none ends the reading with 6."
+//! "Words are capitals-sensitive with one space between". "A word that should be a number and is
+//! none ends the reading with 6." What a console may put behind them is in document 02, §2.
 
 use crate::panel::{Mode, Ntsc, RgbRange, Switch, WSettings};
 
@@ -59,11 +59,25 @@ impl Name {
     }
 }
 
-/// Reads a data area as it stands; nothing where it is not understood: "Any other data is 6."
+/// Document 02, §2, "Consoles that end their strings": "Before words are split, one final 00h is
+/// taken off if there, then all spaces at the end."
 ///
-/// A space parts two words, so a space too many makes an empty word, and no word is empty.
+/// Only 20h is a space (docs/DECISIONS.md).
+pub fn trimmed(data: &[u8]) -> &[u8] {
+    let mut rest = data.strip_suffix(b"\0").unwrap_or(data);
+    while let Some(shorter) = rest.strip_suffix(b" ") {
+        rest = shorter;
+    }
+    rest
+}
+
+/// Reads a data area; nothing where it is not understood: "Any other data is 6", and "judged after
+/// the trimming".
+///
+/// A space parts two words, so a space too many makes an empty word, and no word is empty. "Data of
+/// spaces alone, or of none, is not understood": it is one empty word.
 pub fn read(data: &[u8]) -> Option<Order> {
-    let words: Vec<&[u8]> = data.split(|byte| *byte == b' ').collect();
+    let words: Vec<&[u8]> = trimmed(data).split(|byte| *byte == b' ').collect();
     match words.as_slice() {
         [b"STATset", rest @ ..] => read_change(rest).map(Order::Set),
         [b"STATget", rest @ ..] => read_name(rest).map(Order::Get),
@@ -212,5 +226,56 @@ fn shift_text(shift: i8) -> String {
         format!("+{shift}")
     } else {
         shift.to_string()
+    }
+}
+
+#[cfg(test)]
+mod tests {
+    use super::*;
+
+    // "one final 00h is taken off if there, then all spaces at the end": no other byte, none at the
+    // front, none between the words.
+    #[test]
+    fn what_is_trimmed() {
+        let tried: [(&[u8], &[u8]); 21] = [
+            (b"", b""),
+            (b" ", b""),
+            (b"  ", b""),
+            (b"\0", b""),
+            (b" \0", b""),
+            (b"\0\0", b"\0"),
+            (b"\0 ", b"\0"),
+            (b"40", b"40"),
+            (b"40 ", b"40"),
+            (b"40  ", b"40"),
+            (b"40\0", b"40"),
+            (b"40 \0", b"40"),
+            (b"40  \0", b"40"),
+            (b"40\0 ", b"40\0"),
+            (b"40\0\0", b"40\0"),
+            (b"40 \0 ", b"40 \0"),
+            (b"40\t", b"40\t"),
+            (b"40 \t", b"40 \t"),
+            (b"40\x01", b"40\x01"),
+            (b" 40", b" 40"),
+            (b"\0A  B", b"\0A  B"),
+        ];
+        for (data, left) in tried {
+            assert_eq!(trimmed(data), left, "{data:?}");
+        }
+    }
+
+    // Every byte alone behind the words: 20h and 00h are taken off.
+    #[test]
+    fn no_other_byte_is_trimmed() {
+        for byte in 0..=255 {
+            let data = [b'A', byte];
+            let left: &[u8] = if byte == 0x20 || byte == 0x00 {
+                b"A"
+            } else {
+                &data
+            };
+            assert_eq!(trimmed(&data), left);
+        }
     }
 }

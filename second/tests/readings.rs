@@ -1,4 +1,5 @@
-//! How document 01 is read where it leaves a choice (docs/DECISIONS.md, "Messages"): a test for each reading.
+//! How document 01, and what landed of document 02, is read where it leaves a choice
+//! (docs/DECISIONS.md): a test for each reading. Those of §1 are in `receiver.rs` beside this.
 
 mod common;
 
@@ -344,27 +345,131 @@ fn reset_and_numbers() {
 
 // A leading space, two spaces, a tab, a further word, or no data is 6.
 #[test]
-fn words_as_they_stand() {
+fn words_and_what_parts_them() {
     let mut held = usual_box();
     for bad in [
         &b" STATset LED ON"[..],
         b"STATset  LED ON",
         b"STATset LED  ON",
         b"STATset\tLED ON",
+        b"STATset LED\tON",
         b"STATset LED ON ON",
-        b"STATset LED ON ",
-        b"STATset LED ON\0",
         b"STATset LED",
         b"STATset ON",
         b"STATset",
-        b"STATset ",
-        b"STATget LED ",
         b"STATget",
-        b" ",
         b"",
     ] {
         assert_eq!(words(&mut held, bad), (6, ok(0, 0, b"")));
     }
+    assert_eq!(held, usual_box());
+}
+
+// §2: "one final 00h is taken off if there, then all spaces at the end". `40` 00h and `40` space
+// 00h are good.
+#[test]
+fn endings_that_are_taken_off() {
+    for ending in [&b""[..], b" ", b"  ", b"\0", b" \0", b"  \0"] {
+        let mut held = usual_box();
+        let set = [b"STATset VOLUME 40", ending].concat();
+        assert_eq!(words(&mut held, &set), (0, ok(0, 0, b"")), "{ending:?}");
+        assert_eq!(w(&mut held, 1).volume, 40);
+        // "our own replies still end bare".
+        let get = [b"STATget VOLUME", ending].concat();
+        assert_eq!(words(&mut held, &get), (0, ok(0, 0, b"VOLUME 40")));
+        // By UDP the same.
+        let off = [b"STATset VOLUME 0", ending].concat();
+        assert_eq!(udp(&mut held, &packet(1, 0xFF, &off)), 0);
+        assert_eq!(w(&mut held, 2).volume, 0);
+    }
+    let mut held = usual_box();
+    w(&mut held, 1).shift_h = 5;
+    let told = words(&mut held, b"STATget RGB RANGE \0");
+    assert_eq!(told, (0, ok(0, 0, b"RGB RANGE FULL")));
+    assert_eq!(words(&mut held, b"STATset RESET\0"), (0, ok(0, 0, b"")));
+    assert_eq!(held, usual_box());
+}
+
+// §2: `40` 00h space and `40` 00h 00h are 6. Only 20h is a space.
+#[test]
+fn endings_that_are_not_taken_off() {
+    let mut held = usual_box();
+    for ending in [&b"\0 "[..], b"\0\0", b" \0 ", b"\t", b" \t", b"\x01"] {
+        for text in [&b"STATset VOLUME 40"[..], b"STATget VOLUME"] {
+            let data = [text, ending].concat();
+            assert_eq!(words(&mut held, &data), (6, ok(0, 0, b"")), "{data:?}");
+            assert_eq!(udp(&mut held, &packet(1, 0xFF, &data)), 6);
+        }
+    }
+    // Every byte alone behind the words, and before them.
+    for byte in (0..=255).filter(|byte| ![0x00, 0x20, b'0'].contains(byte)) {
+        let data = [b"STATset VOLUME 1", &[byte][..]].concat();
+        let told = words(&mut held, &data);
+        assert_eq!(told.0, if byte.is_ascii_digit() { 0 } else { 6 });
+    }
+    let mut held = usual_box();
+    for byte in 0..=255 {
+        let data = [&[byte], &b"STATset LED ON"[..]].concat();
+        assert_eq!(words(&mut held, &data), (6, ok(0, 0, b"")));
+    }
+    assert_eq!(held, usual_box());
+}
+
+// §2: "Data of spaces alone, or of none, is not understood. Refusals: 6 as before, judged after the
+// trimming."
+#[test]
+fn what_is_left_after_the_trimming() {
+    let mut held = usual_box();
+    for bad in [
+        &b""[..],
+        b" ",
+        b"     ",
+        b"\0",
+        b" \0",
+        b"\0 ",
+        b"\0\0",
+        b"STATset ",
+        b"STATset\0",
+        b"STATset \0",
+        b"STATget ",
+        b"STATget\0",
+        b"STATset VOLUME ",
+        b"STATset VOLUME \0",
+        b"STATset LED \0",
+        b"STATset  LED ON ",
+        b" STATset LED ON ",
+    ] {
+        assert_eq!(words(&mut held, bad), (6, ok(0, 0, b"")), "{bad:?}");
+        assert_eq!(udp(&mut held, &packet(0xFF, 0xFF, bad)), 6);
+    }
+    assert_eq!(words(&mut held, &[b' '; 499]), (6, ok(0, 0, b"")));
+    assert_eq!(held, usual_box());
+}
+
+// §2: the data length is of the data as sent, and check 5 comes first.
+#[test]
+fn the_data_length_is_of_the_data_as_sent() {
+    let ng = hex("03 0B 53 4F 4E 59 00 00 00 B0 00 00 02 F0 50");
+    let mut held = usual_box();
+    for last in [b' ', 0x00] {
+        let mut data = b"STATset VOLUME 40".to_vec();
+        data.resize(498, b' ');
+        data.push(last);
+        assert_eq!(packet(0, 0, &data).len(), 512);
+        assert_eq!(words(&mut held, &data), (0, ok(0, 0, b"")));
+        assert_eq!(w(&mut held, 1).volume, 40);
+        w(&mut held, 1).volume = 30;
+        // One space more is too long, whatever is left of it.
+        data.insert(17, b' ');
+        assert_eq!(words(&mut held, &data), (5, ng.clone()));
+    }
+    // A length that leaves the ending out, and one that counts an ending which is not there.
+    let mut bytes = packet(0, 0, b"STATset VOLUME 40 ");
+    bytes[12] = 17;
+    assert_eq!(tcp(&mut held, 1, &bytes), (5, ng.clone()));
+    let mut bytes = packet(0, 0, b"STATset VOLUME 40");
+    bytes[12] = 18;
+    assert_eq!(tcp(&mut held, 1, &bytes), (5, ng));
     assert_eq!(held, usual_box());
 }
 

@@ -2,6 +2,7 @@
 use Prim.Native.Nat.{ℕ}
 use mathlib.Core.Path.{_≡_, refl}
 use mathlib.Core.List.{List, [], _∷_, _++_, map}
+use native.Mathlib.Omega.{arith}
 use lib.ListN.{set, replicate}
 use lib.IntN.{pos, negsuc}
 use Rattle.laws.specs.Bytes.{ascii}
@@ -14,10 +15,13 @@ use Rattle.setting_words.specs.Names.{namedBy, ledBy, chosenBy}
 use Rattle.panels.specs.Records.{startW}
 use Rattle.panels.specs.declared.WRecord.{WRecord}
 use Rattle.vmc.specs.Orders.{withSettings, withShifts, carried, saysOf}
-use Rattle.vmc_asks.specs.Asks.{readData, readSet, readGet, valueOrder, shiftOrder}
+use Rattle.trimming.specs.Trimming.{unterminated, unspaced, trimmed}
+use Rattle.trimming.proofs.Trimmed.{terminated, endsBare}
+use Rattle.vmc_asks.specs.Asks.{readData, readWords, readSet, readGet, valueOrder, shiftOrder}
 use Rattle.vmc_tells.specs.Texts.{textOf, setWords, moveWords, valueWords, shiftWords}
 use Rattle.sdcp_asks.specs.Asks.{isOurs, isBroken, heardOf}
 use Rattle.sdcp.specs.Replies.{packetOf, bytesOf, turned, turnOf}
+use Rattle.sdcp.proofs.Ended.{EndedAs}
 
 -- a row: the panel before a packet, the area's length, the packet, and its turn: the panel afterwards, the answer and the reply
 record Row : Type 0 where
@@ -132,5 +136,10 @@ examples =
 
 -- every row's turn is what the packet comes to
 tried : map (λ (r : Row). taken (r .room) (turnOf (r .packet)) (r .before)) examples ≡ map (λ (r : Row). r .turn) examples
-unfolding examples taken heardOf isOurs isBroken number inBytes turned carried saysOf readData readSet readGet valueOrder upTo isNumeral leadsZero shiftOrder isDigit decimal inDigits numeral namedBy ledBy chosenBy bytesOf packetOf textOf setWords moveWords valueWords shiftWords
+unfolding examples taken heardOf isOurs isBroken number inBytes turned carried saysOf readData readWords trimmed unspaced unterminated readSet readGet valueOrder upTo isNumeral leadsZero shiftOrder isDigit decimal inDigits numeral namedBy ledBy chosenBy bytesOf packetOf textOf setWords moveWords valueWords shiftWords
 tried = refl
+
+-- and a packet with a space and 00h behind its string is that packet without
+ended-one : EndedAs (packetFrom own 17 (ascii "STATset VOLUME 40")) (packetFrom own 19 (ascii "STATset VOLUME 40" ++ (0x20 ∷ 0x00 ∷ [])))
+unfolding isBroken number inBytes endsBare
+ended-one = record { front-same = refl; long = omega arith; ended-long = omega arith; sound = refl; ended-sound = refl; ends-bare = refl; ended = terminated 1 }

@@ -1,4 +1,5 @@
 pub mod Determined
+pub mod Ended
 mod Examples
 mod Packets
 pub mod Refusals

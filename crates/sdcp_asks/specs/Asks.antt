@@ -35,7 +35,7 @@ itemOf m = number (getD m 9 0 ∷ getD m 10 0 ∷ [])
 abbrev pub dataLengthOf : List ℕ → ℕ
 dataLengthOf m = number (getD m 11 0 ∷ getD m 12 0 ∷ [])
 
--- "The data area, from byte 13 to its end, is read as it stands."
+-- "The data area, from byte 13 to its end, is read"
 abbrev pub dataOf : List ℕ → List ℕ
 dataOf m = drop 13 m
 

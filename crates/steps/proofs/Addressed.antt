@@ -200,18 +200,23 @@ module _ (ns : List Name) (m m′ : List ℕ) (e : take 8 m ≡ take 8 m′) whe
   byte-alike : (k : ℕ) → k < 8 → getD m k 0 ≡ getD m′ k 0
   byte-alike k h = sym (getD-take 8 m k 0 h) ∙ ap (λ (s : List ℕ). getD s k 0) e ∙ getD-take 8 m′ k 0 h
 
+  pub target-alike : (l : ℕ) → byTcp ns l m ≡ byTcp ns l m′
+  unfolding byTcp
+  target-alike l = rw (asked-alike, byte-alike 6 (omega arith), byte-alike 7 (omega arith))
+
+  pub called-alike : (x : Name) → isCalled m x ≡ isCalled m′ x
+  unfolding isCalled
+  called-alike nobody = refl
+  called-alike (aW g u) = rw (asked-alike, byte-alike 6 (omega arith), byte-alike 7 (omega arith))
+  called-alike aK = refl
+
   pub header-tcp : (l : ℕ) (area area′ : List ℕ) (i : ℕ) → addressed ns (tcp l m area) i ≡ addressed ns (tcp l m′ area′) i
-  unfolding addressed target byTcp
-  header-tcp l area area′ i = rw (asked-alike, byte-alike 6 (omega arith), byte-alike 7 (omega arith))
+  unfolding addressed target
+  header-tcp l area area′ i = ap (λ (n : ℕ). eqb n (suc i)) (target-alike l)
 
   pub header-udp : (i : ℕ) → addressed ns (udp m) i ≡ addressed ns (udp m′) i
-  unfolding addressed isCalled
-  header-udp i = go (getD ns i nobody)
-    where
-      go : (x : Name) → isCalled m x ≡ isCalled m′ x
-      go nobody = refl
-      go (aW g u) = rw (asked-alike, byte-alike 6 (omega arith), byte-alike 7 (omega arith))
-      go aK = refl
+  unfolding addressed
+  header-udp i = called-alike (getD ns i nobody)
 
 -- ---- the same read off the records: "A group ID is never taken for a unit ID"
 

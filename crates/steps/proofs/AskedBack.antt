@@ -56,7 +56,7 @@ asked b i l k p area r e = record {
     f = told-order (length area) p (Get k) (panelAt i b .w) (has-room (on-link p) r) e
 
 -- a packet that is understood has words that are
-heard-words : (p : List ℕ) (o : Order) → heardOf p ≡ Understood o → readData (dataOf p) ≡ UnderstoodWords o
+pub heard-words : (p : List ℕ) (o : Order) → heardOf p ≡ Understood o → readData (dataOf p) ≡ UnderstoodWords o
 unfolding heardOf
 heard-words p o e =
     let t = passed (ltb (length p) 13) (Refused WrongLength) _ (Understood o) (λ q. let z : _≡_ {A = ℕ} 0 1 = cc in omega arith) e in

@@ -151,6 +151,10 @@ tried = refl
 abbrev toGroup : ℕ → Message
 toGroup group = udp (packet group 0xff 0x00 0x00 0x11 (ascii "STATset VOLUME 40"))
 
+-- as two consoles send it, with a space and 00h behind it
+abbrev ended : ℕ → ℕ → List ℕ
+ended group unit = packet group unit 0x00 0x00 0x13 (ascii "STATset VOLUME 40" ++ (0x20 ∷ 0x00 ∷ []))
+
 abbrev remoteAsked : ℕ → ℕ → Message
 remoteAsked link room = rs232c link (0x02 ∷ 0x03 ∷ 0x01 ∷ 0x41 ∷ 0x6e ∷ 0x4d ∷ []) (lent room)
 
@@ -173,6 +177,9 @@ more =
     -- FFh/FFh is every W panel; a group that no W panel has: 4
     leaves (toGroup 0xff) 0 [] volumes (pos 40 ∷ pos 40 ∷ pos 30 ∷ pos 40 ∷ []) ∷
     leaves (toGroup 3) 4 [] volumes (pos 30 ∷ pos 30 ∷ pos 30 ∷ pos 30 ∷ []) ∷
+    -- document 02, §2: a space and 00h behind the words are taken off, by TCP and by UDP
+    leaves (tcp 1 (ended 0x00 0x00) (lent 512)) 0 ok volumes (pos 40 ∷ pos 30 ∷ pos 30 ∷ pos 30 ∷ []) ∷
+    leaves (udp (ended 0x01 0xff)) 0 [] volumes (pos 40 ∷ pos 40 ∷ pos 30 ∷ pos 30 ∷ []) ∷
     -- by TCP on link 4 to the pair 1/2: that panel acts, and the reply is in the link's area
     leaves (tcp 4 (packet 0x01 0x02 0x00 0x00 0x11 (ascii "STATset VOLUME 40")) (lent 600)) 0 (packet 0x01 0x02 0x01 0x00 0x00 []) volumes (pos 30 ∷ pos 40 ∷ pos 30 ∷ pos 30 ∷ []) ∷
     -- the pair 2/2, which no panel has: 4

@@ -6,6 +6,7 @@ pub mod AskedBackSerial
 pub mod Bench
 pub mod Checks
 pub mod Door
+pub mod Ended
 pub mod Finding
 pub mod Judged
 pub mod Notices
@@ -13,6 +14,7 @@ pub mod Numbered
 pub mod Obeyed
 pub mod Only
 pub mod Opened
+pub mod ReadBack
 pub mod Refusals
 pub mod Shapes
 pub mod Sound

@@ -12,6 +12,7 @@ use Rattle.panels.specs.declared.KRecord.{KRecord}
 use Rattle.panels.specs.declared.DisplayBox.{DisplayBox}
 use Rattle.configure.specs.Configure.{askedAt, asked, configured}
 use Rattle.setting_words.specs.Names.{namedBy, ledBy, chosenBy}
+use Rattle.trimming.specs.Trimming.{unterminated, unspaced, trimmed}
 use Rattle.vmc.specs.Orders as words
 use Rattle.vmc_asks.specs.Asks as wordAsks
 use Rattle.vmc_tells.specs.Texts.{textOf, setWords, valueWords}
@@ -51,7 +52,7 @@ openedFrames m k = frames.turnOf m k
 
 -- SDCP and VMC
 unfoldable openedPackets : List ℕ → WRecord → Turn WRecord
-unfolding number inBytes isDigit decimal leadsZero isNumeral upTo inDigits numeral namedBy ledBy chosenBy wordAsks.readData wordAsks.readSet wordAsks.readGet wordAsks.valueOrder wordAsks.shiftOrder words.carried words.saysOf textOf setWords valueWords packetAsks.isOurs packetAsks.isBroken packetAsks.heardOf packets.packetOf packets.bytesOf packets.turned
+unfolding number inBytes isDigit decimal leadsZero isNumeral upTo inDigits numeral namedBy ledBy chosenBy unterminated unspaced trimmed wordAsks.readData wordAsks.readWords wordAsks.readSet wordAsks.readGet wordAsks.valueOrder wordAsks.shiftOrder words.carried words.saysOf textOf setWords valueWords packetAsks.isOurs packetAsks.isBroken packetAsks.heardOf packets.packetOf packets.bytesOf packets.turned
 openedPackets m w = packets.turnOf m w
 
 -- the step

@@ -135,9 +135,17 @@ in-use-name b i v k = ap (λ (ns : List Name). getD ns i nobody) (valid-names b 
 pub unused-name : (b : DisplayBox) (i : ℕ) → valid b ≡ true → b .count ≤ i → getD (names b) i nobody ≡ nobody
 unused-name b i v k = ap (λ (ns : List Name). getD ns i nobody) (valid-names b v) ∙ name-behind (b .count) (b .panels) i k
 
+-- a message comes to a panel of no box but a valid one
+pub reached-valid : {b : DisplayBox} {m : Message} {i : ℕ} → Reaches b m i → valid b ≡ true
+reached-valid {b} {m} r = judge (valid b) refl
+  where
+    judge : (v : Bool) → valid b ≡ v → valid b ≡ true
+    judge true v = v
+    judge false v = absurd (false-true (sym (bad-shut b m v) ∙ done-opens (names b) m (r .passes)))
+
 -- a place that a message comes to holds a panel in use, of the message's family
 pub its-own : {b : DisplayBox} {m : Message} {i : ℕ} → Reaches b m i → (i < b .count) × (speaks m (nameOf (panelAt i b)) ≡ true)
-its-own {b} {m} {i} r = judge (valid b) refl
+its-own {b} {m} {i} r = place (ltb i (b .count)) refl (reached-valid r)
   where
     spoken : speaks m (getD (names b) i nobody) ≡ true
     spoken = its-family (names b) m i (r .passes) (r .meant)
@@ -146,10 +154,6 @@ its-own {b} {m} {i} r = judge (valid b) refl
     place true t v = let k = ltb-true i (b .count) t in (k, sym (ap (speaks m) (in-use-name b i v k)) ∙ spoken)
     place false t v =
         absurd (false-true (sym (nobody-speaks m) ∙ sym (ap (speaks m) (unused-name b i v (ltb-false i (b .count) t))) ∙ spoken))
-
-    judge : (v : Bool) → valid b ≡ v → (i < b .count) × (speaks m (nameOf (panelAt i b)) ≡ true)
-    judge true v = place (ltb i (b .count)) refl v
-    judge false v = absurd (false-true (sym (bad-shut b m v) ∙ done-opens (names b) m (r .passes)))
 
 -- the places behind the panels in use are given back as they came
 pub unused-kept : (b : DisplayBox) (m : Message) (i : ℕ) → b .count ≤ i → panelAt i (step b m .box) ≡ panelAt i b

@@ -1,6 +1,6 @@
 -- What STATget tells is the record's own value: its words set it again, a set is told next, and no other order changes what is told.
 use Prim.Native.Nat.{ℕ, _+_, _-_, _<_}
-use mathlib.Core.Path.{_≡_, refl, ap, _∙_}
+use mathlib.Core.Path.{_≡_, refl, sym, ap, subst}
 use mathlib.Core.Bool.{Bool, true, false, cond}
 use mathlib.Core.List.{List, _++_}
 use native.Mathlib.Omega.{arith}
@@ -15,6 +15,7 @@ use Rattle.settings.specs.Table.{nameCount, settingCount, mosts}
 use Rattle.panels.specs.Valid.{okShift, okW}
 use Rattle.panels.specs.declared.WRecord.{WRecord}
 use Rattle.panels.proofs.Ranges.{parts}
+use Rattle.trimming.proofs.Trimmed.{endsBare, bare-behind}
 use Rattle.vmc.specs.Orders.{withSettings, withShifts, carried, saysOf}
 use Rattle.vmc_asks.specs.Asks.{readData}
 use Rattle.vmc_tells.specs.Texts.{textOf, moveWords}
@@ -22,7 +23,7 @@ use Rattle.vmc_asks.specs.declared.Order.{Order}
 use Rattle.vmc_asks.specs.declared.Order.the-variants.{Set, Shift, Reset, Get}
 use Rattle.vmc_tells.specs.declared.Says.the-variants.{Value, Offset}
 use Rattle.vmc_asks.specs.declared.Words.the-variants.{Understood}
-use Rattle.vmc.proofs.ReadBack.{set-back, move-back}
+use Rattle.vmc.proofs.ReadBack.{Phrase, read-back, set-back, move-back}
 use Rattle.vmc.proofs.Validity.{understood-fits}
 
 -- ---- the words that go back
@@ -31,10 +32,9 @@ use Rattle.vmc.proofs.Validity.{understood-fits}
 abbrev pub present : ℕ → WRecord → Order
 present k w = cond (ltb k settingCount) (Set k (getD (w .settings) k 0)) (Shift (k - settingCount) (getD (w .shifts) (k - settingCount) (pos 0)))
 
--- each STATget's words, put behind `STATset `, are understood and order the present value
-pub told-back : (k : ℕ) (w : WRecord) → okW w ≡ true → length (w .shifts) ≡ 2 → k < nameCount → readData (ascii "STATset " ++ textOf (saysOf (Get k) w)) ≡ Understood (present k w)
+told-phrase : (k : ℕ) (w : WRecord) → okW w ≡ true → length (w .shifts) ≡ 2 → k < nameCount → Phrase (ascii "STATset " ++ textOf (saysOf (Get k) w)) (present k w)
 unfolding saysOf textOf
-told-back k w v t h = go (ltb k settingCount) refl
+told-phrase k w v t h = go (ltb k settingCount) refl
   where
     value : ℕ
     value = getD (w .settings) k 0
@@ -42,12 +42,20 @@ told-back k w v t h = go (ltb k settingCount) refl
     offset : ℤ
     offset = getD (w .shifts) (k - settingCount) (pos 0)
 
-    go : (b : Bool) → ltb k settingCount ≡ b → readData (ascii "STATset " ++ textOf (cond b (Value k value) (Offset k offset))) ≡ Understood (cond b (Set k value) (Shift (k - settingCount) offset))
+    go : (b : Bool) → ltb k settingCount ≡ b → Phrase (ascii "STATset " ++ textOf (cond b (Value k value) (Offset k offset))) (cond b (Set k value) (Shift (k - settingCount) offset))
     go true e = set-back k value (ltb-true k settingCount e) (within-at (w .settings) mosts k (parts w v .settings-ok))
     go false e =
         let l = ltb-false k settingCount e in
         let q : k ≡ settingCount + (k - settingCount) = omega arith in
-        ap (λ (j : ℕ). readData (ascii "STATset " ++ moveWords j offset)) q ∙ move-back (k - settingCount) offset (omega arith) (every-at okShift (w .shifts) (k - settingCount) (pos 0) (parts w v .shifts-ok) (omega arith))
+        subst (λ (j : ℕ). Phrase (ascii "STATset " ++ moveWords j offset) (Shift (k - settingCount) offset)) (sym q) (move-back (k - settingCount) offset (omega arith) (every-at okShift (w .shifts) (k - settingCount) (pos 0) (parts w v .shifts-ok) (omega arith)))
+
+-- each STATget's words, put behind `STATset `, are understood and order the present value
+pub told-back : (k : ℕ) (w : WRecord) → okW w ≡ true → length (w .shifts) ≡ 2 → k < nameCount → readData (ascii "STATset " ++ textOf (saysOf (Get k) w)) ≡ Understood (present k w)
+told-back k w v t h = read-back _ (present k w) (told-phrase k w v t h)
+
+-- Document 02, §2: "our own replies still end bare"
+pub told-bare : (k : ℕ) (w : WRecord) → okW w ≡ true → length (w .shifts) ≡ 2 → k < nameCount → endsBare (textOf (saysOf (Get k) w)) ≡ true
+told-bare k w v t h = bare-behind (ascii "STATset ") _ (told-phrase k w v t h .ends-bare)
 
 -- and that order leaves the record as it is
 pub present-leaves : (k : ℕ) (w : WRecord) → carried (present k w) w ≡ w

@@ -4,6 +4,7 @@ use mathlib.Core.Path.{_≡_, refl}
 use mathlib.Core.Bool.{Bool, true, false}
 use mathlib.Core.List.{List, [], _∷_, _++_, map}
 use lib.IntN.{pos, negsuc}
+use lib.ListN.{replicate}
 use Rattle.laws.specs.Bytes.{ascii}
 use Rattle.laws.specs.Lists.{every}
 use Rattle.decimals.specs.Decimals.{isDigit, decimal, leadsZero, isNumeral, upTo, inDigits, numeral}
@@ -11,7 +12,8 @@ use Rattle.panels.specs.Records.{startW}
 use Rattle.panels.specs.declared.WRecord.{WRecord}
 use Rattle.setting_words.specs.Names.{namedBy, ledBy, chosenBy}
 use Rattle.vmc.specs.Orders.{carried, saysOf}
-use Rattle.vmc_asks.specs.Asks.{shiftOrder, valueOrder, readSet, readGet, readData}
+use Rattle.trimming.specs.Trimming.{unterminated, unspaced, trimmed}
+use Rattle.vmc_asks.specs.Asks.{shiftOrder, valueOrder, readSet, readGet, readWords, readData}
 use Rattle.vmc_tells.specs.Texts.{valueWords, shiftWords, setWords, moveWords, textOf}
 use Rattle.vmc_asks.specs.declared.Order.the-variants.{Set, Shift, Reset, Get}
 use Rattle.vmc_tells.specs.declared.Says.the-variants.{Value, Offset}
@@ -29,7 +31,7 @@ reply NotUnderstood w = []
 
 -- * `STATset VOLUME 40`, "Then `STATget VOLUME`: length 9, `VOLUME 40`"
 bench-volume : reply (readData (ascii "STATget VOLUME")) (after (readData (ascii "STATset VOLUME 40")) startW) ≡ ascii "VOLUME 40"
-unfolding after reply readData readSet readGet valueOrder upTo isNumeral leadsZero isDigit decimal inDigits numeral ledBy namedBy carried saysOf textOf setWords valueWords
+unfolding after reply readData readWords trimmed unspaced unterminated readSet readGet valueOrder upTo isNumeral leadsZero isDigit decimal inDigits numeral ledBy namedBy carried saysOf textOf setWords valueWords
 bench-volume = refl
 
 -- "as `VOLUME 40`, `MODE2`, `CAMERA FOCUS OFF`, `SHIFTH +5`, `SHIFTH 0`"
@@ -70,8 +72,21 @@ taken-as : map readData taken ≡
     Understood (Get 5) ∷
     Understood (Get 18) ∷
     Understood (Get 22) ∷ []
-unfolding taken readData readSet readGet valueOrder upTo isNumeral leadsZero isDigit decimal ledBy namedBy chosenBy shiftOrder
+unfolding taken readData readWords trimmed unspaced unterminated readSet readGet valueOrder upTo isNumeral leadsZero isDigit decimal ledBy namedBy chosenBy shiftOrder
 taken-as = refl
+
+-- Document 02, §2, "one final 00h is taken off if there, then all spaces at the end": the ends that are good
+ends : List (List ℕ)
+ends = [] ∷ (0x20 ∷ []) ∷ (0x20 ∷ 0x20 ∷ []) ∷ (0x00 ∷ []) ∷ (0x20 ∷ 0x00 ∷ []) ∷ (0x20 ∷ 0x20 ∷ 0x00 ∷ []) ∷ []
+
+ended : List ℕ → List Words
+ended words = map (λ (e : List ℕ). readData (words ++ e)) ends
+
+-- each order with each of these ends
+ended-as : map ended (ascii "STATset VOLUME 40" ∷ ascii "STATset RESET" ∷ ascii "STATget VOLUME" ∷ ascii "STATget RGB RANGE" ∷ []) ≡
+    map (λ (w : Words). replicate 6 w) (Understood (Set 2 40) ∷ Understood Reset ∷ Understood (Get 2) ∷ Understood (Get 5) ∷ [])
+unfolding ends ended readData readWords trimmed unspaced unterminated readSet readGet valueOrder upTo isNumeral leadsZero isDigit decimal ledBy namedBy
+ended-as = refl
 
 -- "101: 6", "-31 and -0: 6"; other signs, leading zeros, twenty digits (2 ^ 64 and 40)
 numbers-off : List (List ℕ)
@@ -94,7 +109,7 @@ numbers-off =
     ascii "STATset VOLUME" ∷
     ascii "STATset VOLUME 18446744073709551656" ∷ []
 
--- "Words are capitals-sensitive with one space between; a trailing space or 00h makes it not understood."
+-- "Words are capitals-sensitive with one space between"
 spacing-off : List (List ℕ)
 spacing-off =
     ascii "statset VOLUME 40" ∷
@@ -104,11 +119,6 @@ spacing-off =
     ascii "STATset  VOLUME 40" ∷
     ascii "STATset VOLUME  40" ∷
     ascii "STATset CAMERA  FOCUS ON" ∷
-    ascii "STATset VOLUME 40 " ∷
-    ascii "STATset RESET " ∷
-    ascii "STATget VOLUME " ∷
-    (ascii "STATset VOLUME 40" ++ (0x00 ∷ [])) ∷
-    (ascii "STATget VOLUME" ++ (0x00 ∷ [])) ∷
     ascii " STATset VOLUME 40" ∷
     (ascii "STATset" ++ (0x09 ∷ ascii "VOLUME 40")) ∷
     (ascii "STATset VOLUME" ++ (0x09 ∷ ascii "40")) ∷ []
@@ -116,11 +126,8 @@ spacing-off =
 -- "Any other data is 6."
 words-off : List (List ℕ)
 words-off =
-    [] ∷
     ascii "STATset" ∷
-    ascii "STATset " ∷
     ascii "STATget" ∷
-    ascii "STATget " ∷
     ascii "VOLUME 40" ∷
     ascii "STATset VOLUME 40 41" ∷
     ascii "STATset MODE3" ∷
@@ -140,6 +147,33 @@ words-off =
     ascii "STATget CAMERA" ∷
     ascii "STATget FLIPHVX" ∷ []
 
+-- Document 02, §2: another end, or one before the words or within them
+ends-off : List (List ℕ)
+ends-off =
+    (ascii "STATset VOLUME 40" ++ (0x00 ∷ 0x20 ∷ [])) ∷
+    (ascii "STATset VOLUME 40" ++ (0x00 ∷ 0x00 ∷ [])) ∷
+    (ascii "STATset VOLUME 40" ++ (0x20 ∷ 0x00 ∷ 0x20 ∷ [])) ∷
+    (ascii "STATset VOLUME 40" ++ (0x09 ∷ [])) ∷
+    (ascii "STATset VOLUME 40" ++ (0x20 ∷ 0x09 ∷ [])) ∷
+    (ascii "STATset VOLUME 40" ++ (0x01 ∷ [])) ∷
+    (ascii "STATset VOLUME 40" ++ (0x0d ∷ [])) ∷
+    (0x00 ∷ ascii "STATset VOLUME 40") ∷
+    (ascii "STATset VOLUME" ++ (0x00 ∷ ascii " 40")) ∷ []
+
+-- "Data of spaces alone, or of none, is not understood."
+nothing-left : List (List ℕ)
+nothing-left =
+    [] ∷
+    ascii " " ∷
+    ascii "  " ∷
+    (0x00 ∷ []) ∷
+    (0x20 ∷ 0x00 ∷ []) ∷
+    (0x00 ∷ 0x00 ∷ []) ∷
+    ascii "STATset " ∷
+    (ascii "STATset" ++ (0x00 ∷ [])) ∷
+    ascii "STATget " ∷
+    (ascii "STATget " ++ (0x00 ∷ [])) ∷ []
+
 isStrange : Words → Bool
 isStrange (Understood o) = false
 isStrange NotUnderstood = true
@@ -148,6 +182,6 @@ strange : List ℕ → Bool
 strange d = isStrange (readData d)
 
 -- none of these is understood
-none-taken : every strange (numbers-off ++ spacing-off ++ words-off) ≡ true
-unfolding numbers-off spacing-off words-off isStrange strange readData readSet readGet valueOrder upTo isNumeral leadsZero isDigit decimal ledBy namedBy chosenBy shiftOrder
+none-taken : every strange (numbers-off ++ spacing-off ++ words-off ++ ends-off ++ nothing-left) ≡ true
+unfolding numbers-off spacing-off words-off ends-off nothing-left isStrange strange readData readWords trimmed unspaced unterminated readSet readGet valueOrder upTo isNumeral leadsZero isDigit decimal ledBy namedBy chosenBy shiftOrder
 none-taken = refl

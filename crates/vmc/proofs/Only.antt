@@ -1,5 +1,6 @@
--- Nothing else slips in: data is understood exactly when it is STATset with RESET or the words of some setting and value
--- (a shift also without its plus), or STATget with a name. Each test that the reader passes fixes the bytes that it passed.
+-- Nothing else slips in: data is understood exactly when it is, but for spaces and one 00h at its end, STATset with RESET or the words
+-- of some setting and value (a shift also without its plus), or STATget with a name. Each test that the reader passes fixes the bytes
+-- that it passed.
 use Prim.Native.Nat.{ℕ, zero, suc, _+_, _-_, _^_, _<_, _≤_}
 use mathlib.Core.Path.{_≡_, refl, sym, ap, subst, _∙_}
 use mathlib.Core.Bool.{Bool, true, false, cond, _&&_, _||_}
@@ -28,13 +29,16 @@ use Rattle.setting_words.specs.declared.Found.{Found}
 use Rattle.setting_words.specs.declared.Found.the-variants.{At, Nothing}
 use Rattle.setting_words.proofs.Search.{Right, first-right}
 use Rattle.setting_words.proofs.Choices.{led-right}
-use Rattle.vmc_asks.specs.Asks.{levelOf, levelOrder, choiceOrder, shiftBy, shiftOrder, valueOrder, setOrder, readSet, getOrder, readGet, readData}
+use Rattle.trimming.specs.Trimming.{trimmed}
+use Rattle.trimming.proofs.Trimmed.{Ended}
+use Rattle.vmc_asks.specs.Asks.{levelOf, levelOrder, choiceOrder, shiftBy, shiftOrder, valueOrder, setOrder, readSet, getOrder, readGet, readWords, readData}
 use Rattle.vmc_tells.specs.Texts.{valueWords, shiftWords, setWords, moveWords}
 use Rattle.vmc_asks.specs.declared.Order.{Order}
 use Rattle.vmc_asks.specs.declared.Order.the-variants.{Set, Shift, Reset, Get}
 use Rattle.vmc_asks.specs.declared.Words.{Words}
 use Rattle.vmc_asks.specs.declared.Words.the-variants.{Understood, NotUnderstood}
-use Rattle.vmc.proofs.ReadBack.{set-back, move-back, plain-back, reset-back, get-back}
+use Rattle.vmc_asks.proofs.Ended.{read-ended}
+use Rattle.vmc.proofs.ReadBack.{Phrase, read-back, set-back, move-back, plain-back, reset-back, get-back}
 
 -- the words behind STATset, and what they order
 pub data Spoken : List ℕ → Order → Type 0 where
@@ -48,12 +52,16 @@ pub data Asks : List ℕ → Order → Type 0 where
   stat-set : (s : List ℕ) (o : Order) → Spoken s o → Asks (ascii "STATset " ++ s) o
   stat-get : (k : ℕ) → k < nameCount → Asks (ascii "STATget " ++ nameOf k) (Get k)
 
-pub all : (d : List ℕ) (o : Order) → Asks d o → readData d ≡ Understood o
-all _ _ (stat-set _ _ (sets k v h l)) = set-back k v h l
-all _ _ (stat-set _ _ (moves axis z h e)) = move-back axis z h e
-all _ _ (stat-set _ _ (plain axis n h l)) = plain-back axis n h l
-all _ _ (stat-set _ _ resets) = reset-back
-all _ _ (stat-get k h) = get-back k h
+phrase : (t : List ℕ) (o : Order) → Asks t o → Phrase t o
+phrase _ _ (stat-set _ _ (sets k v h l)) = set-back k v h l
+phrase _ _ (stat-set _ _ (moves axis z h e)) = move-back axis z h e
+phrase _ _ (stat-set _ _ (plain axis n h l)) = plain-back axis n h l
+phrase _ _ (stat-set _ _ resets) = reset-back
+phrase _ _ (stat-get k h) = get-back k h
+
+-- such data is understood, with spaces behind it and behind these one 00h or none
+pub all : (t d : List ℕ) (o : Order) → Asks t o → Ended t d → readData d ≡ Understood o
+all t d o a e = let p = phrase t o a in read-ended t d (p .ends-bare) e ∙ read-back t o p
 
 -- what is known of the order, where there is one
 abbrev Says : (Order → Type 0) → Words → Type 0
@@ -213,12 +221,14 @@ get-order : (s : List ℕ) (x : Found) → Right (λ (k : ℕ). same (nameOf k) 
 get-order s (At k) r = subst (λ (w : List ℕ). Asks (ascii "STATget " ++ w) (Get k)) (same-is (nameOf k) s (r .passes)) (stat-get k (r .small))
 get-order s Nothing r = tt
 
-read-data : (d : List ℕ) → Says (Asks d) (readData d)
-unfolding readData readGet namedBy
-read-data d =
+read-words : (d : List ℕ) → Says (Asks d) (readWords d)
+unfolding readWords readGet namedBy
+read-words d =
     pick (Asks d) (begins (ascii "STATset ") d) _ _ (λ e. subst (λ (w : List ℕ). Says (Asks w) (readSet (drop 8 d))) (sym (begins-front (ascii "STATset ") d e)) (carry (Spoken (drop 8 d)) (Asks (ascii "STATset " ++ drop 8 d)) (λ o p. stat-set (drop 8 d) o p) (readSet (drop 8 d)) (read-set (drop 8 d))))
     (λ _. pick (Asks d) (begins (ascii "STATget ") d) _ _ (λ e. subst (λ (w : List ℕ). Says (Asks w) (readGet (drop 8 d))) (sym (begins-front (ascii "STATget ") d e)) (get-order (drop 8 d) (namedBy (drop 8 d)) (first-right nameCount (λ (k : ℕ). same (nameOf k) (drop 8 d)))))
     (λ _. tt))
 
-pub only : (d : List ℕ) (o : Order) → readData d ≡ Understood o → Asks d o
-only d o e = subst (Says (Asks d)) e (read-data d)
+-- nothing else is understood, but for such an end
+pub only : (d : List ℕ) (o : Order) → readData d ≡ Understood o → Asks (trimmed d) o
+unfolding readData
+only d o e = subst (Says (Asks (trimmed d))) e (read-words (trimmed d))

@@ -1,8 +1,9 @@
--- STATget's words, put behind `STATset `, set the value that they tell: computed for every setting and every value it may hold.
+-- STATget's words, put behind `STATset `, set the value that they tell, and end bare: computed for every setting and every value it
+-- may hold.
 use Prim.Native.Nat.{ℕ, _+_, _<_, _≤_}
 use mathlib.Core.Path.{_≡_, refl, ap, subst, _∙_}
 use mathlib.Core.Bool.{Bool, true, false, not, _&&_, _||_}
-use mathlib.Core.List.{_++_}
+use mathlib.Core.List.{List, _++_}
 use native.Mathlib.Omega.{arith}
 use lib.Dec.{T, eqb, leb, eqb→eq}
 use borrow.Author.Tests.{leb-true, ne-eqb}
@@ -10,18 +11,34 @@ use lib.ListN.{getD}
 use lib.IntN.{ℤ, pos, negsuc}
 use Rattle.laws.specs.Bytes.{ascii, begins}
 use Rattle.laws.specs.Lists.{everyBelow}
-use Rattle.laws.proofs.Table.{below, and-left, and-right}
+use Rattle.laws.proofs.Table.{below, sure, and-left, and-right}
 use Rattle.decimals.specs.Decimals.{isDigit, decimal, leadsZero, isNumeral, upTo, inDigits, numeral}
 use Rattle.panels.specs.Valid.{okShift}
 use Rattle.laws.proofs.Conditions.{and-first}
 use Rattle.settings.specs.Table.{mostShift, nameCount, settingCount, mosts}
 use Rattle.setting_texts.specs.Names.{nameOf, leadOf}
 use Rattle.setting_words.specs.Names.{namedBy, ledBy, chosenBy}
-use Rattle.vmc_asks.specs.Asks.{shiftOrder, valueOrder, readSet, readGet, readData}
+use Rattle.trimming.proofs.Trimmed.{endsBare, bare-trimmed}
+use Rattle.vmc_asks.specs.Asks.{shiftOrder, valueOrder, readSet, readGet, readWords, readData}
 use Rattle.vmc_tells.specs.Texts.{valueWords, shiftWords, setWords, moveWords}
+use Rattle.vmc_asks.specs.declared.Order.{Order}
 use Rattle.vmc_asks.specs.declared.Order.the-variants.{Set, Shift, Reset, Get}
 use Rattle.vmc_asks.specs.declared.Words.{Words}
 use Rattle.vmc_asks.specs.declared.Words.the-variants.{Understood, NotUnderstood}
+
+-- words that order o as they stand, and end with neither a space nor 00h
+pub record Phrase (t : List ℕ) (o : Order) : Type 0 where
+  pub orders : readWords t ≡ Understood o
+  pub ends-bare : endsBare t ≡ true
+
+-- nothing is taken off such words
+pub read-back : (t : List ℕ) (o : Order) → Phrase t o → readData t ≡ Understood o
+unfolding readData
+read-back t o p = ap readWords (bare-trimmed t (p .ends-bare)) ∙ p .orders
+
+-- a computed test of words is one of both
+both : (t : List ℕ) (o : Order) (f : Words → Bool) → ((x : Words) → T (f x) → x ≡ Understood o) → T (f (readWords t) && endsBare t) → Phrase t o
+both t o f g h = record { orders = g (readWords t) (and-left (f (readWords t)) (endsBare t) h); ends-bare = sure (endsBare t) (and-right (f (readWords t)) (endsBare t) h) }
 
 -- two signed numbers are the same
 sameZ : ℤ → ℤ → Bool
@@ -45,7 +62,7 @@ isSet k v (Understood (Get j)) = false
 isSet k v NotUnderstood = false
 
 setsBack : ℕ → ℕ → Bool
-setsBack k v = isSet k v (readData (ascii "STATset " ++ setWords k v))
+setsBack k v = isSet k v (readWords (ascii "STATset " ++ setWords k v)) && endsBare (ascii "STATset " ++ setWords k v)
 
 allSetBack : ℕ → Bool
 allSetBack k = everyBelow (getD mosts k 0 + 1) (setsBack k)
@@ -59,9 +76,9 @@ is-set k v (Understood (Get j)) t = absurd t
 is-set k v NotUnderstood t = absurd t
 
 -- the words that set a value are the order to set it
-pub set-back : (k v : ℕ) → k < settingCount → v ≤ getD mosts k 0 → readData (ascii "STATset " ++ setWords k v) ≡ Understood (Set k v)
-unfolding isSet setsBack allSetBack readData readSet valueOrder upTo isNumeral leadsZero isDigit decimal inDigits numeral ledBy chosenBy setWords valueWords
-set-back k v h l = is-set k v _ (below (getD mosts k 0 + 1) (setsBack k) (below settingCount allSetBack tt k h) v (omega arith))
+pub set-back : (k v : ℕ) → k < settingCount → v ≤ getD mosts k 0 → Phrase (ascii "STATset " ++ setWords k v) (Set k v)
+unfolding isSet setsBack allSetBack readWords endsBare readSet valueOrder upTo isNumeral leadsZero isDigit decimal inDigits numeral ledBy chosenBy setWords valueWords
+set-back k v h l = both _ (Set k v) (isSet k v) (is-set k v) (below (getD mosts k 0 + 1) (setsBack k) (below settingCount allSetBack tt k h) v (omega arith))
 
 -- a shift, as its sign and its size less one below 0
 isShift : ℕ → ℤ → Words → Bool
@@ -80,31 +97,31 @@ is-shift axis z (Understood (Get j)) t = absurd t
 is-shift axis z NotUnderstood t = absurd t
 
 movesBack : (ℕ → ℤ) → ℕ → ℕ → Bool
-movesBack f axis n = isShift axis (f n) (readData (ascii "STATset " ++ moveWords (settingCount + axis) (f n)))
+movesBack f axis n = isShift axis (f n) (readWords (ascii "STATset " ++ moveWords (settingCount + axis) (f n))) && endsBare (ascii "STATset " ++ moveWords (settingCount + axis) (f n))
 
 -- every size of one sign, on both axes
 allMoveBack : (ℕ → ℤ) → ℕ → ℕ → Bool
 allMoveBack f sizes axis = everyBelow sizes (movesBack f axis)
 
-pub move-back : (axis : ℕ) (z : ℤ) → axis < 2 → okShift z ≡ true → readData (ascii "STATset " ++ moveWords (settingCount + axis) z) ≡ Understood (Shift axis z)
-unfolding okShift sameZ isShift movesBack allMoveBack readData readSet valueOrder upTo isNumeral leadsZero isDigit decimal inDigits numeral ledBy chosenBy shiftOrder moveWords shiftWords
-move-back axis (pos n) h e = let l = leb-true n 30 e in is-shift axis (pos n) _ (below 31 (movesBack pos axis) (below 2 (allMoveBack pos 31) tt axis h) n (omega arith))
-move-back axis (negsuc n) h e = let l = leb-true n 29 (and-first (leb n 29) true e) in is-shift axis (negsuc n) _ (below 30 (movesBack negsuc axis) (below 2 (allMoveBack negsuc 30) tt axis h) n (omega arith))
+pub move-back : (axis : ℕ) (z : ℤ) → axis < 2 → okShift z ≡ true → Phrase (ascii "STATset " ++ moveWords (settingCount + axis) z) (Shift axis z)
+unfolding okShift sameZ isShift movesBack allMoveBack readWords endsBare readSet valueOrder upTo isNumeral leadsZero isDigit decimal inDigits numeral ledBy chosenBy shiftOrder moveWords shiftWords
+move-back axis (pos n) h e = let l = leb-true n 30 e in both _ (Shift axis (pos n)) (isShift axis (pos n)) (is-shift axis (pos n)) (below 31 (movesBack pos axis) (below 2 (allMoveBack pos 31) tt axis h) n (omega arith))
+move-back axis (negsuc n) h e = let l = leb-true n 29 (and-first (leb n 29) true e) in both _ (Shift axis (negsuc n)) (isShift axis (negsuc n)) (is-shift axis (negsuc n)) (below 30 (movesBack negsuc axis) (below 2 (allMoveBack negsuc 30) tt axis h) n (omega arith))
 
 -- a shift may stand without its plus
 plainBack : ℕ → ℕ → Bool
-plainBack axis n = isShift axis (pos n) (readData (ascii "STATset " ++ leadOf (settingCount + axis) ++ numeral n))
+plainBack axis n = isShift axis (pos n) (readWords (ascii "STATset " ++ leadOf (settingCount + axis) ++ numeral n)) && endsBare (ascii "STATset " ++ leadOf (settingCount + axis) ++ numeral n)
 
 allPlainBack : ℕ → Bool
 allPlainBack axis = everyBelow 31 (plainBack axis)
 
-pub plain-back : (axis n : ℕ) → axis < 2 → n ≤ mostShift → readData (ascii "STATset " ++ leadOf (settingCount + axis) ++ numeral n) ≡ Understood (Shift axis (pos n))
-unfolding sameZ isShift plainBack allPlainBack readData readSet valueOrder upTo isNumeral leadsZero isDigit decimal inDigits numeral ledBy chosenBy shiftOrder
-plain-back axis n h l = is-shift axis (pos n) _ (below 31 (plainBack axis) (below 2 allPlainBack tt axis h) n (omega arith))
+pub plain-back : (axis n : ℕ) → axis < 2 → n ≤ mostShift → Phrase (ascii "STATset " ++ leadOf (settingCount + axis) ++ numeral n) (Shift axis (pos n))
+unfolding sameZ isShift plainBack allPlainBack readWords endsBare readSet valueOrder upTo isNumeral leadsZero isDigit decimal inDigits numeral ledBy chosenBy shiftOrder
+plain-back axis n h l = both _ (Shift axis (pos n)) (isShift axis (pos n)) (is-shift axis (pos n)) (below 31 (plainBack axis) (below 2 allPlainBack tt axis h) n (omega arith))
 
-pub reset-back : readData (ascii "STATset RESET") ≡ Understood Reset
-unfolding readData readSet
-reset-back = refl
+pub reset-back : Phrase (ascii "STATset RESET") Reset
+unfolding readWords endsBare readSet
+reset-back = record { orders = refl; ends-bare = refl }
 
 -- each name asks for its value
 isGet : ℕ → Words → Bool
@@ -123,11 +140,11 @@ is-get k (Understood (Get j)) t = ap (λ (n : ℕ). Understood (Get n)) (eqb→e
 is-get k NotUnderstood t = absurd t
 
 asksBack : ℕ → Bool
-asksBack k = isGet k (readData (ascii "STATget " ++ nameOf k))
+asksBack k = isGet k (readWords (ascii "STATget " ++ nameOf k)) && endsBare (ascii "STATget " ++ nameOf k)
 
-pub get-back : (k : ℕ) → k < nameCount → readData (ascii "STATget " ++ nameOf k) ≡ Understood (Get k)
-unfolding isGet asksBack readData readGet namedBy
-get-back k h = is-get k _ (below nameCount asksBack tt k h)
+pub get-back : (k : ℕ) → k < nameCount → Phrase (ascii "STATget " ++ nameOf k) (Get k)
+unfolding isGet asksBack readWords endsBare readGet namedBy
+get-back k h = both _ (Get k) (isGet k) (is-get k) (below nameCount asksBack tt k h)
 
 -- no name, with what parts it from its value, begins another
 apart : ℕ → ℕ → Bool

@@ -12,6 +12,7 @@ use Rattle.panels.specs.Valid.{okShift, okW}
 use Rattle.panels.specs.declared.WRecord.{WRecord}
 use Rattle.panels.proofs.Ranges.{InRange, parts, whole}
 use Rattle.vmc.specs.Orders.{carried}
+use Rattle.trimming.specs.Trimming.{trimmed}
 use Rattle.vmc_asks.specs.Asks.{readData}
 use Rattle.vmc_asks.specs.declared.Order.{Order}
 use Rattle.vmc_asks.specs.declared.Order.the-variants.{Set, Shift, Reset, Get}
@@ -38,7 +39,7 @@ asks-fits _ _ (stat-get k h) = h
 
 -- an order that was understood names one of the settings, with a value in its range
 pub understood-fits : (d : List ℕ) (o : Order) → readData d ≡ Understood o → Fits o
-understood-fits d o e = asks-fits d o (only d o e)
+understood-fits d o e = asks-fits (trimmed d) o (only d o e)
 
 pub carried-fits : (o : Order) (w : WRecord) → Fits o → InRange w → InRange (carried o w)
 unfolding carried okShift

@@ -1,4 +1,4 @@
--- Document 01, "SDCP and VMC": what the words of the data ask.
+-- Document 01, "SDCP and VMC", and document 02, §2: what the words of the data ask.
 use Prim.Native.Nat.{ℕ, zero, suc, _-_}
 use mathlib.Core.Bool.{Bool, true, false, cond, _&&_}
 use mathlib.Core.List.{List}
@@ -14,6 +14,7 @@ use Rattle.setting_texts.specs.Names.{leadOf}
 use Rattle.setting_words.specs.Names.{namedBy, ledBy, chosenBy}
 use Rattle.setting_words.specs.declared.Found.{Found}
 use Rattle.setting_words.specs.declared.Found.the-variants.{At, Nothing}
+use Rattle.trimming.specs.Trimming.{trimmed}
 use Rattle.vmc_asks.specs.declared.Order.the-variants.{Set, Shift, Reset, Get}
 use Rattle.vmc_asks.specs.declared.Words.{Words}
 use Rattle.vmc_asks.specs.declared.Words.the-variants.{Understood, NotUnderstood}
@@ -68,9 +69,13 @@ getOrder Nothing = NotUnderstood
 unfoldable pub readGet : List ℕ → Words
 readGet s = getOrder (namedBy s)
 
--- "Words are capitals-sensitive with one space between; a trailing space or 00h makes it not understood. [..] Any other data is 6."
-unfoldable pub readData : List ℕ → Words
-readData d =
+-- "Words are capitals-sensitive with one space between; [..] Any other data is 6."
+unfoldable pub readWords : List ℕ → Words
+readWords d =
     cond (begins (ascii "STATset ") d) (readSet (drop 8 d))
     (cond (begins (ascii "STATget ") d) (readGet (drop 8 d))
     NotUnderstood)
+
+-- Document 02, §2: "Before words are split", the string's end is taken off
+unfoldable pub readData : List ℕ → Words
+readData d = readWords (trimmed d)

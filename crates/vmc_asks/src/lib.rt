@@ -1,4 +1,4 @@
-// VMC: what the words of a packet's data ask, whatever the panel (document 01, "SDCP and VMC").
+// VMC: what the words of a packet's data ask, whatever the panel (document 01, "SDCP and VMC"; document 02, §2).
 use decimals::Number;
 use decimals::plain_number;
 use octets::begins_with;
@@ -12,11 +12,12 @@ use settings::LEVEL_COUNT;
 use settings::MOST_LEVEL;
 use settings::MOST_SHIFT;
 use settings::SETTING_COUNT;
+use trimming::trimmed_length;
 ghost use mathlib.Core.Path.{_≡_};
 ghost use Prim.Native.Nat.{_≤_};
 ghost use Rattle.settings.specs.Table.{mostShift};
 ghost use Rattle.setting_words.specs.Names.{chosenBy};
-ghost use Rattle.vmc_asks.specs.Asks.{levelOf, signed, levelOrder, choiceOrder, shiftBy, shiftOrder, valueOrder, readSet, readGet, readData};
+ghost use Rattle.vmc_asks.specs.Asks.{levelOf, signed, levelOrder, choiceOrder, shiftBy, shiftOrder, valueOrder, readSet, readGet, readWords, readData};
 
 // What the words order or ask. The number is the name's place: 0 to 20 are the table's settings, 21 and 22 SHIFTH and SHIFTV.
 pub enum Order {
@@ -139,9 +140,9 @@ fn read_get(s: &[u8]) -> Words
     Words::Understood(Order::Get(k))
 }
 
-// What the data asks.
-pub fn read_data(d: &[u8]) -> Words
-    ensures { λ r. ⌜ r ≡ readData (now (d .entry)) ⌝ }
+// What the words ask.
+fn read_words(d: &[u8]) -> Words
+    ensures { λ r. ⌜ r ≡ readWords (now (d .entry)) ⌝ }
 {
     if begins_with(d, b"STATset ") {
         return read_set(&d[8..]);
@@ -150,4 +151,12 @@ pub fn read_data(d: &[u8]) -> Words
         return read_get(&d[8..]);
     }
     Words::NotUnderstood
+}
+
+// What the data asks: its words, without the end that some consoles give their strings (document 02, §2).
+pub fn read_data(d: &[u8]) -> Words
+    ensures { λ r. ⌜ r ≡ readData (now (d .entry)) ⌝ }
+{
+    let n = trimmed_length(d);
+    read_words(&d[..n])
 }

@@ -1,88 +1,41 @@
--- `read_data` goes by the first word, and lends on what stands behind it.
-use mathlib.Core.Path.{sym, ap, _∙_}
-use Prim.Native.Nat.{_≤_}
-use lib.ListN.{length}
-use borrow.Author.Needs.{needs}
+-- `read_data` lends on what is left of the data's front.
+use Prim.Native.Nat.{ℕ}
+use mathlib.Core.Path.{_≡_, sym, ap, _∙_}
 use native.Mathlib.Omega.{arith}
-use Rattle.laws.specs.Bytes.{ascii}
-use Rattle.laws.proofs.Lists.{rest}
-use Rattle.laws.proofs.Texts.{begins-fits}
-use Rattle.vmc_asks.specs.Asks.{readSet, readGet, readData}
+use lib.ListN.{take}
+use lib.Seq.{length-take-le}
+use borrow.Author.Needs.{needs}
+use Rattle.trimming.specs.Trimming.{trimmed}
+use Rattle.trimming.proofs.Trimmed.{trimmed-from, ended-front}
+use Rattle.vmc_asks.specs.Asks.{readWords, readData}
 use Rattle.vmc_asks.proofs.read_data.Statement.{statement}
 use Rattle.vmc_asks.proofs.read_data.Tie as tie
 
-slice-aggregate-begins-with : tie.Need-slice-aggregate-begins-with
-slice-aggregate-begins-with c = search needs
+trimmed-length-requires : tie.Need-trimmed-length-requires
+trimmed-length-requires c κs = search needs
 
-begins-with-requires : tie.Need-begins-with-requires
-begins-with-requires c κs = search needs
+slice-aggregate-read-words : tie.Need-slice-aggregate-read-words
+slice-aggregate-read-words c =
+    let d = c .before .before .before .args .d .now in
+    let h = ended-front (trimmed d) d (trimmed-from d) .fits in
+    let e = c .before .trimmed-length .ensures in
+    sym (length-take-le (c .before .trimmed-length .result) d (omega (arith, h, e)))
 
-sub-read-set : tie.Need-sub-read-set
-sub-read-set c = begins-fits (ascii "STATset ") (c .before .before .before .before .args .d .now) (sym (c .before .begins-with .ensures) ∙ c .if1 .taken)
-
-part-read-set-start : tie.Need-part-read-set-start
-part-read-set-start c =
-    let h : 8 ≤ length (c .before .before .before .before .args .d .now) = begins-fits (ascii "STATset ") (c .before .before .before .before .args .d .now) (sym (c .before .begins-with .ensures) ∙ c .if1 .taken) in
-    omega (arith, h)
-
-part-read-set-end : tie.Need-part-read-set-end
-part-read-set-end c = search needs
-
-read-set-requires : tie.Need-read-set-requires
-read-set-requires c κs = search needs
+read-words-requires : tie.Need-read-words-requires
+read-words-requires c κs = search needs
 
 returns : tie.Need-returns
 unfolding readData
 returns c =
-    let d = c .before .before .before .before .before .before .args .d .now in
-    c .read-set .ensures ∙ ap readSet (rest d 8) ∙ sym (rw (← c .before .before .before .begins-with .ensures, c .before .before .if1 .taken))
-
-slice-aggregate-begins-with-2 : tie.Need-slice-aggregate-begins-with-2
-slice-aggregate-begins-with-2 c = search needs
-
-begins-with-requires-2 : tie.Need-begins-with-requires-2
-begins-with-requires-2 c κs = search needs
-
-sub-read-get : tie.Need-sub-read-get
-sub-read-get c = begins-fits (ascii "STATget ") (c .before .before .before .before .before .before .before .args .d .now) (sym (c .before .begins-with2 .ensures) ∙ c .if2 .taken)
-
-part-read-get-start : tie.Need-part-read-get-start
-part-read-get-start c =
-    let h : 8 ≤ length (c .before .before .before .before .before .before .before .args .d .now) = begins-fits (ascii "STATget ") (c .before .before .before .before .before .before .before .args .d .now) (sym (c .before .begins-with2 .ensures) ∙ c .if2 .taken) in
-    omega (arith, h)
-
-part-read-get-end : tie.Need-part-read-get-end
-part-read-get-end c = search needs
-
-read-get-requires : tie.Need-read-get-requires
-read-get-requires c κs = search needs
-
-returns-2 : tie.Need-returns-2
-unfolding readData
-returns-2 c =
-    let d = c .before .before .before .before .before .before .before .before .before .args .d .now in
-    c .read-get .ensures ∙ ap readGet (rest d 8) ∙ sym (rw (← c .before .before .before .before .before .before .begins-with .ensures, c .before .before .before .before .before .if1 .left, ← c .before .before .before .begins-with2 .ensures, c .before .before .if2 .taken))
-
-returns-3 : tie.Need-returns-3
-unfolding readData
-returns-3 c = sym (rw (← c .before .before .before .before .begins-with .ensures, c .before .before .before .if1 .left, ← c .before .begins-with2 .ensures, c .if2 .left))
+    let d = c .before .before .before .before .args .d .now in
+    let e : take (c .before .before .trimmed-length .result) d ≡ trimmed d = ap (λ (n : ℕ). take n d) (c .before .before .trimmed-length .ensures) ∙ ended-front (trimmed d) d (trimmed-from d) .front in
+    c .read-words .ensures ∙ ap readWords e
 
 pub read-data-spec : {M : Type 1} → statement M
 read-data-spec =
     tie.close
     (tie.spec
-    slice-aggregate-begins-with
-    begins-with-requires
-    sub-read-set
-    part-read-set-start
-    part-read-set-end
-    read-set-requires
-    returns
-    slice-aggregate-begins-with-2
-    begins-with-requires-2
-    sub-read-get
-    part-read-get-start
-    part-read-get-end
-    read-get-requires
-    returns-2
-    returns-3)
+    trimmed-length-requires
+    slice-aggregate-read-words
+    read-words-requires
+    returns)

@@ -2,10 +2,10 @@
 //!
 //! - `generate SEED ORDERS` writes a random script of that many orders; the same seed gives the
 //!   same script, always and everywhere.
-//! - `generate sweep` writes the fixed script that walks every small range of document 01, and
-//!   streams in pieces (document 02, §1).
+//! - `generate sweep` writes the fixed script that walks every small range of document 01, streams
+//!   in pieces (document 02, §1), and every ending behind every kind of words (§2).
 //!
-//! The generator knows what document 01 accepts, so that most of its messages get past the first
+//! The generator knows what the documents accept, so that most of its messages get past the first
 //! checks; it does not know, and does not use, what the answers are.
 
 mod make;
@@ -180,6 +180,71 @@ mod tests {
                 .map(|(_, answer)| answer == "unread")
                 .collect();
             assert!(unread.contains(&!(1..=8).contains(&link)), "link {link}");
+        }
+    }
+
+    /// The data of a packet by TCP or UDP whose length is right, and its answer's number.
+    fn data_and_number((order, answer): &(String, String)) -> Option<(Vec<u8>, &str)> {
+        let (way, digits) = order.rsplit_once(' ')?;
+        if way != "udp" && !way.starts_with("tcp ") {
+            return None;
+        }
+        let bytes: Option<Vec<u8>> = (0..digits.len())
+            .step_by(2)
+            .map(|place| u8::from_str_radix(digits.get(place..place + 2)?, 16).ok())
+            .collect();
+        let bytes = bytes?;
+        let data = bytes.get(13..)?.to_vec();
+        let length = usize::from(u16::from_be_bytes([bytes[11], bytes[12]]));
+        let number = answer.strip_prefix("answer ")?.get(..1)?;
+        (data.len() == length).then_some((data, number))
+    }
+
+    /// The bytes behind the last that is no space, tab, 00h or 01h.
+    fn ending_of(data: &[u8]) -> &[u8] {
+        let last = data.iter().rposition(|byte| !b" \0\t\x01".contains(byte));
+        &data[last.map_or(0, |place| place + 1)..]
+    }
+
+    /// Every ending, good and bad, behind words that are carried out, or would be.
+    fn every_ending_is_there(answered: &[(String, String)]) {
+        let told: Vec<(Vec<u8>, &str)> = answered.iter().filter_map(data_and_number).collect();
+        for (endings, number) in [
+            (&words::GOOD_ENDINGS[..], "0"),
+            (&words::BAD_ENDINGS[..], "6"),
+        ] {
+            for ending in endings {
+                let there =
+                    |(data, told): &&(Vec<u8>, &str)| ending_of(data) == *ending && *told == number;
+                assert!(told.iter().filter(there).count() >= 5, "{ending:?}");
+            }
+        }
+    }
+
+    #[test]
+    fn a_random_script_has_endings() {
+        let answered = answered(&random::script(3, 20_000));
+        every_ending_is_there(&answered);
+        let told: Vec<(Vec<u8>, &str)> = answered.iter().filter_map(data_and_number).collect();
+        let ended = told.iter().filter(|(data, _)| !ending_of(data).is_empty());
+        let share = ended.count() * 1000 / told.len();
+        assert!((220..300).contains(&share), "{share} of 1000 packets");
+    }
+
+    #[test]
+    fn the_sweep_has_every_ending_behind_every_kind_of_words() {
+        let answered = answered(&sweep::script());
+        every_ending_is_there(&answered);
+        let told: BTreeSet<Vec<u8>> = answered
+            .iter()
+            .filter_map(data_and_number)
+            .map(|(data, _)| data)
+            .collect();
+        for text in words::good_texts() {
+            for ending in words::GOOD_ENDINGS.iter().chain(&words::BAD_ENDINGS) {
+                let data = [text.as_bytes(), ending].concat();
+                assert!(told.contains(&data), "{text} {ending:?}");
+            }
         }
     }
 

@@ -1,4 +1,5 @@
-//! The sweep: a fixed script that walks every small range of document 01, and pieces cut anywhere.
+//! The sweep: a fixed script that walks every small range of document 01, pieces cut anywhere, and
+//! what document 02 asks for besides.
 
 use crate::make::{
     advert_of_000, close, frame, full_advert, hashes_behind, hex, packet, serial, zeros_before,
@@ -6,7 +7,9 @@ use crate::make::{
 };
 use crate::unread;
 use crate::wire;
-use crate::words::{good_texts, names, CHOICES, LEVELS, SHIFTS, STRANGERS, SWITCHES};
+use crate::words::{
+    good_texts, names, BAD_ENDINGS, CHOICES, GOOD_ENDINGS, LEVELS, SHIFTS, STRANGERS, SWITCHES,
+};
 
 /// The links of [`HOUSE`].
 pub const W: u64 = 1;
@@ -17,14 +20,14 @@ pub const PANELS: usize = 5;
 pub const HOUSE: &str = "box W 1 2 W 1 3 W 2 1 K 0 0 K 0 0";
 
 /// More than the sweep has.
-pub const MOST_ORDERS: usize = 70_000;
+pub const MOST_ORDERS: usize = 80_000;
 
 /// A part of the sweep: its title, and what writes it.
 type Part = (&'static str, fn(&mut Script));
 
 pub fn script() -> Vec<u8> {
     let mut script = Script::of_at_most(MOST_ORDERS);
-    let parts: [Part; 26] = [
+    let parts: [Part; 27] = [
         ("before any box", before_any_box),
         ("boxes, good and bad", boxes),
         ("links and areas", links_and_areas),
@@ -40,6 +43,7 @@ pub fn script() -> Vec<u8> {
         ("VMC: every setting with every value", settings),
         ("VMC: numbers that are none", numbers),
         ("VMC: near misses of every word", near_misses),
+        ("VMC: what stands behind the words", endings),
         ("off the wire: links and areas", wire::links_and_areas),
         ("off the wire: every cut", wire::cuts),
         ("off the wire: every byte of the header", wire::headers),
@@ -633,7 +637,7 @@ fn near_misses(script: &mut Script) {
                 }
             }
         }
-        for end in [&b" "[..], b"\0", b"\n", b" ON", b"0", b"S", b"  "] {
+        for end in [&b"\n"[..], b" ON", b"0", b"S"] {
             misses.push([&good[..], end].concat());
         }
         for miss in &misses {
@@ -641,6 +645,100 @@ fn near_misses(script: &mut Script) {
         }
         script.show(W);
     }
+}
+
+/// Every way of putting one to so many of these bytes behind each other.
+fn strings(bytes: &[u8], most: usize) -> Vec<Vec<u8>> {
+    let mut all: Vec<Vec<u8>> = Vec::new();
+    let mut longest = vec![Vec::new()];
+    for _ in 0..most {
+        longest = longest
+            .iter()
+            .flat_map(|string| {
+                bytes
+                    .iter()
+                    .map(move |byte| [&string[..], &[*byte]].concat())
+            })
+            .collect();
+        all.extend(longest.clone());
+    }
+    all
+}
+
+fn endings(script: &mut Script) {
+    // Every kind of words with every ending, each to a new box: by TCP, by UDP, and off the wire.
+    for text in good_texts() {
+        for ending in GOOD_ENDINGS.iter().chain(&BAD_ENDINGS) {
+            let data = [text.as_bytes(), ending].concat();
+            script.line(HOUSE);
+            script.tcp(W, 512, &packet(0, 0, &data));
+            script.show(W);
+            script.udp(&packet(2, 255, &data));
+            script.show(3);
+            script.piece(2, 512, &packet(0, 0, &data));
+        }
+    }
+    // Endings of one to three bytes, behind words and alone, and the same before words.
+    script.line(HOUSE);
+    for (number, string) in strings(b" \0\t\x010", 3).iter().enumerate() {
+        let set = format!("STATset SHIFTH -{}", 1 + number % 30).into_bytes();
+        for words in [&set[..], b"STATget SHIFTH", b"STATset SHIFTH -"] {
+            script.tcp(W, 512, &packet(0, 0, &[words, string].concat()));
+        }
+        script.tcp(W, 512, &packet(0, 0, &[&string[..], &set].concat()));
+        script.tcp(W, 512, &packet(0, 0, string));
+        script.udp(&packet(255, 255, string));
+    }
+    script.show_all(PANELS);
+    // One word, or the front of a longer name, with nothing but an ending behind it.
+    for words in [
+        "STATset",
+        "STATget",
+        "STATsetX",
+        "STAT",
+        "STATset VOLUME",
+        "STATset RGB RANGE",
+        "STATget RGB",
+        "STATset CAMERA FOCUS",
+        "STATset ON",
+        "ON",
+    ] {
+        script.tcp(W, 512, &packet(0, 0, words.as_bytes()));
+        for ending in GOOD_ENDINGS.iter().chain(&BAD_ENDINGS) {
+            let data = [words.as_bytes(), ending].concat();
+            script.tcp(W, 512, &packet(0, 0, &data));
+            script.udp(&packet(255, 255, &data));
+        }
+    }
+    // So many spaces, and so many 00h, up to the longest data; and spaces with a 00h behind them.
+    for count in [20, 100, 255, 256, 257, 498, 499, 500, 501] {
+        let set = format!("STATset VOLUME {}", count % 100);
+        for words in ["", &set, "STATget VOLUME", "STATset"] {
+            for (filler, last) in [(b' ', b' '), (b' ', 0x00), (0x00, 0x00), (0x00, b' ')] {
+                let mut data = words.as_bytes().to_vec();
+                data.resize(count - 1, filler);
+                data.push(last);
+                script.tcp(W, 512, &packet(0, 0, &data));
+            }
+        }
+        script.show(W);
+    }
+    // The data length is of the data as sent: here it leaves the ending out, counts a part of it, or
+    // counts one that is not there.
+    for ending in GOOD_ENDINGS {
+        let bare = packet(0, 0, b"STATset VOLUME 8");
+        let ended = packet(0, 0, &[b"STATset VOLUME 9", ending].concat());
+        for length in bare.len() - 13..=ended.len() - 12 {
+            for message in [&bare, &ended] {
+                let mut message = message.clone();
+                message[12] = length as u8;
+                script.tcp(W, 512, &message);
+                message[6..8].copy_from_slice(&[255, 255]);
+                script.udp(&message);
+            }
+        }
+    }
+    script.show_all(PANELS);
 }
 
 fn frame_places(script: &mut Script) {

@@ -32,6 +32,12 @@ pub const SWITCHES: [&str; 15] = [
     "FLIPHV",
 ];
 
+/// What consoles put behind their strings, and §2 takes off again.
+pub const GOOD_ENDINGS: [&[u8]; 5] = [b" ", b"  ", b"\0", b" \0", b"  \0"];
+
+/// What is nearly such an ending.
+pub const BAD_ENDINGS: [&[u8]; 6] = [b"\0 ", b"\0\0", b" \0 ", b"\t", b" \t", b"\x01"];
+
 /// Words of the manuals, and others, that document 01 does not take.
 pub const STRANGERS: [&str; 40] = [
     "STATset CONTRAST 50",
@@ -150,8 +156,32 @@ pub fn shift(rng: &mut Rng) -> String {
     }
 }
 
-/// A data area that is good, or nearly.
+/// An ending, mostly a good one.
+pub fn ending(rng: &mut Rng) -> Vec<u8> {
+    match rng.below(12) {
+        0..=6 => rng.pick(&GOOD_ENDINGS).to_vec(),
+        7 => {
+            let mut spaces = vec![b' '; 3 + rng.below(40)];
+            if rng.once_in(2) {
+                spaces.push(0x00);
+            }
+            spaces
+        }
+        _ => rng.pick(&BAD_ENDINGS).to_vec(),
+    }
+}
+
+/// A data area that is good, or nearly; one in four has an ending behind it.
 pub fn text(rng: &mut Rng) -> Vec<u8> {
+    let mut text = bare_text(rng);
+    if rng.once_in(4) {
+        text.extend(ending(rng));
+    }
+    text
+}
+
+/// A data area that is good, or nearly, as it ends by itself.
+fn bare_text(rng: &mut Rng) -> Vec<u8> {
     let good = match rng.below(20) {
         0..=3 => format!("STATset {} {}", rng.pick(&LEVELS), level(rng)),
         4..=6 => format!("STATset {} {}", rng.pick(&SHIFTS), shift(rng)),
@@ -178,8 +208,8 @@ fn near_miss(rng: &mut Rng, good: Vec<u8>) -> Vec<u8> {
     let mut text = good;
     let place = rng.below(text.len());
     match rng.below(16) {
-        0 => text.push(b' '),
-        1 => text.push(0x00),
+        0 => text.push(b'\t'),
+        1 => text.insert(0, 0x00),
         2 => text.insert(0, b' '),
         3 => text.insert(place, b' '),
         4 => text[place] = text[place].to_ascii_lowercase(),
