@@ -31,12 +31,13 @@ c_program() {
         "$kit/on/$machine/bin/rattle-link" --target x86_64-unknown-linux-gnu --toolchain "$tools" -o "$1" "$1.o" "$3"
 }
 
-# shadow_kit OBJECT: valgrind runs the code of its own machine only, so on another machine than x86-64 the very module that
-# becomes a program or an archive is compiled for this machine as well, into OBJECT. The kit that does it is the installed one
-# but for a C compiler that does both; its folder is printed.
+# shadow_kit STEM: what the kit's C compiler is given, seen on its way: the very module that becomes a program or an archive. STEM.s is the
+# machine code that is made of it, as text. And valgrind runs the code of its own machine only, so on another machine than x86-64 the
+# module is compiled for this machine as well, into STEM.o. The kit that does it is the installed one but for a C compiler that does all
+# of this; its folder is printed.
 shadow_kit() {
     local shadow=$PWD/target/shadow-kit entry
-    rm -rf "$shadow" "$1"
+    rm -rf "$shadow" "$1.s" "$1.o"
     mkdir -p "$shadow/on/$machine/toolchain/bin" "$(dirname "$1")"
     for entry in "$kit"/*; do [ "${entry##*/}" = on ] || ln -s "$entry" "$shadow/"; done
     for entry in "$kit/on/$machine"/*; do [ "${entry##*/}" = toolchain ] || ln -s "$entry" "$shadow/on/$machine/"; done
@@ -44,25 +45,32 @@ shadow_kit() {
     for entry in "$tools"/bin/*; do [ "${entry##*/}" = clang ] || ln -s "$entry" "$shadow/on/$machine/toolchain/bin/"; done
     cat > "$shadow/on/$machine/toolchain/bin/clang" <<END
 #!/bin/sh
-case "\$*" in *module.bc*) "$tools/bin/clang" --target=$machine-unknown-linux-gnu -w -O3 -g -fPIC -c -x ir module.bc -o "$1" 2> /dev/null ;; esac
+case "\$*" in *module.bc*)
+    "$tools/bin/clang" "\$@" -S -Wno-unused-command-line-argument -o "$1.s"
+    [ $machine = x86_64 ] || "$tools/bin/clang" --target=$machine-unknown-linux-gnu -w -O3 -g -fPIC -c -x ir module.bc -o "$1.o" 2> /dev/null
+    ;;
+esac
 exec "$tools/bin/clang" "\$@"
 END
     chmod +x "$shadow/on/$machine/toolchain/bin/clang"
     echo "$shadow"
 }
 
-# archive CRATE: target/staticlib/libCRATE.a, and on another machine than x86-64 the same module as target/native/CRATE.o, both
-# from one proof and only where a source is newer. It is the second proof of the crate in a gate: `rt staticlib` writes an archive only
-# of what it has proved itself, and `rt ci` proves every crate that crates.txt lists and keeps no archive.
+# archive CRATE: target/staticlib/libCRATE.a, its machine code as target/native/CRATE.s, and on another machine than x86-64 the same module
+# as target/native/CRATE.o, all from one proof and only where a source is newer. It is the second proof of the crate in a gate: `rt staticlib`
+# writes an archive only of what it has proved itself, and `rt ci` proves every crate that crates.txt lists and keeps no archive.
 archive() {
-    local library=target/staticlib/lib$1.a object=$PWD/target/native/$1.o log=target/$1.archive.log home=$kit
-    is_current "$library" && { [ "$machine" = x86_64 ] || is_current "$object"; } && return
+    local library=target/staticlib/lib$1.a stem=$PWD/target/native/$1 log=target/$1.archive.log home
+    is_archived "$library" "$stem" && return
     mkdir -p target
-    if [ "$machine" != x86_64 ]; then home=$(shadow_kit "$object"); fi
-    RATTLE_HOME=$home rt staticlib "$1" > "$log" 2>&1 && { [ "$machine" = x86_64 ] || [ -f "$object" ]; } && return
+    home=$(shadow_kit "$stem")
+    RATTLE_HOME=$home rt staticlib "$1" > "$log" 2>&1 && is_archived "$library" "$stem" && return
     cat "$log"
     return 1
 }
+
+# is_archived ARCHIVE STEM
+is_archived() { is_current "$1" && is_current "$2.s" && { [ "$machine" = x86_64 ] || is_current "$2.o"; }; }
 
 # memcheck_program OUT FILE.c CRATE: the C program and the crate's archive, made before, in a form that valgrind can run
 memcheck_program() {
@@ -79,9 +87,9 @@ native_program() {
         cp "target/bin/$2" "$1"
         return
     fi
-    local object=$PWD/$1.module.o shadow
-    shadow=$(shadow_kit "$object")
+    local shadow
+    shadow=$(shadow_kit "$PWD/$1.module")
     rm -f "target/stamp/$2"
     RATTLE_HOME=$shadow rt check "$2" > "$1.log" 2>&1 < /dev/null || { cat "$1.log"; return 1; }
-    gcc "$object" -o "$1"
+    gcc "$1.module.o" -o "$1"
 }

@@ -59,6 +59,13 @@ in-digits-decimal (b ∷ l) e =
     ap (λ (y : ℕ). y ∷ inDigits (length l) ((b - 0x30) * 10 ^ length l + decimal l)) first
     ∙ ap (λ (t : List ℕ). b ∷ t) (low-digits (length l) (b - 0x30) (decimal l) ∙ in-digits-decimal l es)
 
+-- the digits by their places, the first at 0
+pub digits-at : (n k v : ℕ) → k < n → getD (inDigits n v) k 0 ≡ 0x30 + v / 10 ^ (n - 1 - k) % 10
+unfolding inDigits
+digits-at zero k v h = absurd (omega arith)
+digits-at (suc n) zero v h = ap (λ (j : ℕ). 0x30 + v / 10 ^ j % 10) (omega arith)
+digits-at (suc n) (suc k) v h = digits-at n k v (omega arith) ∙ ap (λ (j : ℕ). 0x30 + v / 10 ^ j % 10) (omega arith)
+
 -- a number under 1000 has zeros before its last three digits
 pub three-digits : (n v : ℕ) → v < 1000 → inDigits (suc (suc (suc n))) v ≡ replicate n 0x30 ++ inDigits 3 v
 unfolding inDigits

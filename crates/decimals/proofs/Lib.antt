@@ -2,3 +2,5 @@ pub mod Decimals
 pub mod Determined
 pub mod Numerals
 pub mod Plain
+pub mod Powers
+pub mod Taken

@@ -1,7 +1,8 @@
 // Decimals in and out: what digits write, and the digits that write a number.
 ghost use mathlib.Core.Path.{_≡_};
-ghost use mathlib.Core.Bool.{true};
-ghost use Prim.Native.Nat.{_+_, _/_, _%_, _^_, _≤_};
+ghost use mathlib.Core.Bool.{true, cond};
+ghost use Prim.Native.Nat.{_+_, _-_, _/_, _%_, _^_, _<_, _≤_};
+ghost use lib.Dec.{ltb};
 ghost use lib.ListN.{length};
 ghost use Rattle.laws.specs.Lists.{every};
 ghost use Rattle.decimals.specs.Decimals.{isDigit, decimal, inDigits, readDigits, leadsZero, upTo, spelled};
@@ -100,54 +101,81 @@ pub fn plain_number(s: &[u8], most: u32) -> Number
     Number::Is(v)
 }
 
+// The powers of ten that a word holds, in the order of its ten digits: the highest first.
+const POWERS: [u32; 10] = [
+    1000000000,
+    100000000,
+    10000000,
+    1000000,
+    100000,
+    10000,
+    1000,
+    100,
+    10,
+    1,
+];
+
+// How often a power of ten comes off in one turn: once, or not at all where the rest is smaller.
+fn comes_off(power: u32, rest: u32) -> u8
+    ensures { λ r. ⌜ r ≡ cond (ltb rest power) 0 1 ⌝ }
+{
+    if rest < power {
+        return 0;
+    }
+    1
+}
+
+// The ten digits of a number that has only `0` before the place `from`: each power of ten is taken off as often as it goes. One loop
+// serves all powers, and has no branch: of a loop for each power, and of branches in this one, the compiler makes divisions again.
+fn ten_digits(v: u32, from: usize) -> [u8; 10]
+    requires { ⌜ from ≤ 10 ⌝ }
+    requires { ⌜ v < 10 ^ (10 - from) ⌝ }
+    ensures { λ r. ⌜ r ≡ inDigits 10 v ⌝ }
+{
+    let powers = POWERS;
+    let mut d = [b'0'; 10];
+    let mut rest = v;
+    let mut n = from;
+    while n < 10 {
+        let power = powers[n];
+        let once = comes_off(power, rest);
+        rest -= power * once as u32;
+        d[n] += once;
+        n += 1 - once as usize;
+    }
+    d
+}
+
 // The last four digits of a number.
 pub fn digits4(v: u16) -> [u8; 4]
     ensures { λ r. ⌜ r ≡ inDigits 4 v ⌝ }
 {
-    [
-        b'0' + (v / 1000 % 10) as u8,
-        b'0' + (v / 100 % 10) as u8,
-        b'0' + (v / 10 % 10) as u8,
-        b'0' + (v % 10) as u8,
-    ]
+    let d = ten_digits(v as u32, 5);
+    [d[6], d[7], d[8], d[9]]
 }
 
 // A byte's number without leading zeros.
 pub fn numeral_of(v: u8) -> Numeral
     ensures { λ r. ⌜ r ≡ spelled v ⌝ }
 {
-    let d = digits4(v as u16);
+    let d = ten_digits(v as u32, 7);
     if v < 10 {
         return Numeral {
-            bytes: [d[3], 0, 0],
+            bytes: [d[9], 0, 0],
             len: 1,
         };
     }
     if v < 100 {
         return Numeral {
-            bytes: [d[2], d[3], 0],
+            bytes: [d[8], d[9], 0],
             len: 2,
         };
     }
     Numeral {
-        bytes: [d[1], d[2], d[3]],
+        bytes: [d[7], d[8], d[9]],
         len: 3,
     }
 }
-
-// The powers of ten that a word holds.
-const TENS: [u32; 10] = [
-    1,
-    10,
-    100,
-    1000,
-    10000,
-    100000,
-    1000000,
-    10000000,
-    100000000,
-    1000000000,
-];
 
 // How many digits a number takes.
 pub fn width_of(v: u32) -> usize
@@ -155,7 +183,7 @@ pub fn width_of(v: u32) -> usize
 {
     let mut k = 1;
     while k < 10 {
-        if v < TENS[k] {
+        if v < POWERS[9 - k] {
             return k;
         }
         k += 1;
@@ -170,5 +198,6 @@ pub fn digit_at(v: u32, n: usize) -> u8
     if 9 < n {
         return b'0';
     }
-    b'0' + (v / TENS[n] % 10) as u8
+    let d = ten_digits(v, 0);
+    d[9 - n]
 }

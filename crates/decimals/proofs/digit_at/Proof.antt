@@ -1,34 +1,32 @@
--- `digit_at` divides by the power of ten that stands at the place; a word has no digit past the tenth.
-use mathlib.Core.Path.{sym}
+-- `digit_at` is one of the ten digits, counted from the last; a word has no digit past the tenth.
+use Prim.Native.Nat.{ℕ, _+_, _-_, _/_, _%_, _^_}
+use mathlib.Core.Path.{sym, ap, _∙_}
+use mathlib.Core.List.{List}
 use borrow.Author.Needs.{needs}
 use native.Mathlib.Omega.{arith}
-use Rattle.laws.proofs.Numbers.{positive}
-use Rattle.decimals.proofs.Plain.{ten, no-digit}
+use lib.ListN.{getD}
+use Rattle.decimals.proofs.Powers.{word-fits, no-digit}
+use Rattle.decimals.proofs.Decimals.{digits-at}
 use Rattle.decimals.proofs.digit_at.Statement.{statement}
 use Rattle.decimals.proofs.digit_at.Tie as tie
 
 returns : tie.Need-returns
-returns c = sym (no-digit (c .before .args .v) (c .before .args .n) (omega arith) (omega arith))
+returns c =
+    let a = c .before .args in
+    sym (no-digit (a .v) (a .n) (word-fits (a .v) (a .n) (omega arith) (omega arith)))
 
-mul-result : tie.Need-mul-result
-mul-result c = search needs
+ten-digits-requires : tie.Need-ten-digits-requires
+ten-digits-requires c κs = search needs
 
 array-read-result : tie.Need-array-read-result
 array-read-result c = search needs
 
-div-result : tie.Need-div-result
-div-result c = rw (ten (c .before .args .n) (omega arith)) (positive 10 (c .before .args .n) (omega arith))
-
-cast-result : tie.Need-cast-result
-cast-result c = search needs
-
-add-result : tie.Need-add-result
-add-result c = search needs
-
 returns-2 : tie.Need-returns-2
-returns-2 c = rw (ten (c .before .args .n) (omega arith))
+returns-2 c =
+    let s = c .before .before in
+    ap (λ (l : List ℕ). getD l (9 - s .args .n) 0) (c .ten-digits .ensures)
+    ∙ digits-at 10 (9 - s .args .n) (s .args .v) (omega arith)
+    ∙ ap (λ (j : ℕ). 0x30 + s .args .v / 10 ^ j % 10) (omega arith)
 
 pub digit-at-spec : {M : Type 1} → statement M
-digit-at-spec =
-    tie.close
-    (tie.spec returns mul-result array-read-result div-result cast-result add-result returns-2)
+digit-at-spec = tie.close (tie.spec returns ten-digits-requires array-read-result returns-2)

@@ -1,38 +1,28 @@
--- `digits4` is the definition, digit for digit; the last digit's divisor is 1.
+-- `digits4` takes the last four of the ten digits.
 use borrow.Author.Needs.{needs}
-use native.Mathlib.Nat.{div-one}
 use Rattle.decimals.specs.Decimals.{inDigits}
 use Rattle.decimals.proofs.digits4.Statement.{statement}
 use Rattle.decimals.proofs.digits4.Tie as tie
 
-cast-t4 : tie.Need-cast-t4
-cast-t4 c = search needs
+ten-digits-requires : tie.Need-ten-digits-requires
+ten-digits-requires c κs = search needs
 
-add-t5 : tie.Need-add-t5
-add-t5 c = search needs
+array-read-t7 : tie.Need-array-read-t7
+array-read-t7 c = search needs
 
-cast-t8 : tie.Need-cast-t8
-cast-t8 c = search needs
+array-read-t10 : tie.Need-array-read-t10
+array-read-t10 c = search needs
 
-add-t9 : tie.Need-add-t9
-add-t9 c = search needs
+array-read-t13 : tie.Need-array-read-t13
+array-read-t13 c = search needs
 
-cast-t12 : tie.Need-cast-t12
-cast-t12 c = search needs
-
-add-t13 : tie.Need-add-t13
-add-t13 c = search needs
-
-cast-t15 : tie.Need-cast-t15
-cast-t15 c = search needs
-
-add-t16 : tie.Need-add-t16
-add-t16 c = search needs
+array-read-t16 : tie.Need-array-read-t16
+array-read-t16 c = search needs
 
 returns : tie.Need-returns
 unfolding inDigits
-returns c = rw div-one
+returns c = rw (c .ten-digits .ensures)
 
 pub digits4-spec : {M : Type 1} → statement M
 digits4-spec =
-    tie.close (tie.spec cast-t4 add-t5 cast-t8 add-t9 cast-t12 add-t13 cast-t15 add-t16 returns)
+    tie.close (tie.spec ten-digits-requires array-read-t7 array-read-t10 array-read-t13 array-read-t16 returns)

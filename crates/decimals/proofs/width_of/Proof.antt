@@ -4,7 +4,8 @@ use mathlib.Core.Path.{_≡_, refl, sym, _∙_}
 use borrow.Author.Needs.{needs}
 use native.Mathlib.Omega.{arith}
 use Rattle.decimals.specs.Plain.{width, widthFrom}
-use Rattle.decimals.proofs.Plain.{ten, width-here, width-next}
+use Rattle.decimals.proofs.Plain.{width-here, width-next}
+use Rattle.decimals.proofs.Powers.{ten}
 use Rattle.decimals.proofs.width_of.Statement.{statement}
 use Rattle.decimals.proofs.width_of.Tie as tie
 
@@ -17,6 +18,9 @@ abbrev μ-loop : tie.MeasureT-loop
 loop-holds : tie.Need-loop-holds Inv-loop μ-loop
 unfolding width
 loop-holds c = (search needs, (search needs, refl))
+
+sub-if1 : tie.Need-sub-if1 Inv-loop μ-loop
+sub-if1 c = search needs
 
 mul-if1 : tie.Need-mul-if1 Inv-loop μ-loop
 mul-if1 c = search needs
@@ -56,6 +60,7 @@ width-of-spec =
     Inv-loop
     μ-loop
     loop-holds
+    sub-if1
     mul-if1
     array-read-if1
     returns
