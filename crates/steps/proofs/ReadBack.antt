@@ -1,12 +1,12 @@
 -- What STATget brings back is good to send: a message comes to no panel but one of a valid box, and a configured one has its arrays,
 -- so that the words of its record are those that VMC reads again.
 use Prim.Native.Nat.{ℕ, _<_}
-use mathlib.Core.Path.{_≡_, refl, sym, ap, subst, _∙_}
+use mathlib.Core.Path.{_≡_, sym, ap, _∙_}
 use mathlib.Core.Bool.{Bool, true, false, cond, _&&_}
 use mathlib.Core.List.{List, _++_}
 use native.Mathlib.Omega.{arith}
 use lib.Dec.{eqb, leb}
-use lib.ListN.{length, getD, take, length-take}
+use lib.ListN.{length, take, length-take}
 use lib.Seq.{getD-take}
 use Rattle.laws.specs.Bytes.{ascii}
 use Rattle.laws.specs.Lists.{every}
