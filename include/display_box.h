@@ -98,7 +98,7 @@ enum box_way {
  * number in front of it, and loads only what has the number that it was compiled
  * with. A receiver is not saved: its connection is over by then.
  */
-#define BOX_LAYOUT 1
+#define BOX_LAYOUT 2
 
 #define BOX_PANELS 8
 
@@ -118,7 +118,7 @@ enum box_setting {
     BOX_MODE,   /* 0, 1, 2: MODE0, MODE1, MODE2 */
     BOX_NTSC,   /* 0, 1: NTSC0, NTSC75 */
     BOX_RGB_RANGE, /* 0, 1: FULL, LIMITED */
-    BOX_REMOTE, /* from here on switches: 0 OFF, 1 ON */
+    BOX_REMOTE, /* from here to BOX_SILENTMODE switches: 0 OFF, 1 ON */
     BOX_POWERSAVING,
     BOX_KEYINHIBIT,
     BOX_TALLYGREEN,
@@ -130,11 +130,12 @@ enum box_setting {
     BOX_LED,
     BOX_SCREENSAVER,
     BOX_SILENTMODE,
-    BOX_FLIPH,
-    BOX_FLIPV,
-    BOX_FLIPHV,
-    BOX_SETTINGS /* how many there are: 21 */
+    BOX_FLIP,   /* of enum box_flip */
+    BOX_SETTINGS /* how many there are: 19 */
 };
+
+/* A panel has one flip. FLIPH, FLIPV and FLIPHV set it; each says ON where it is the one in force. */
+enum box_flip { BOX_FLIP_NONE, BOX_FLIP_H, BOX_FLIP_V, BOX_FLIP_HV };
 
 /* The places of shifts[] in a W record: -30 to 30. */
 enum box_shift { BOX_SHIFTH, BOX_SHIFTV, BOX_SHIFTS };
@@ -236,8 +237,8 @@ struct box_received {
 #else
 #define BOX_LENGTH_IS(record, length) typedef char box_length_of_##record[sizeof(struct record) == (length) ? 1 : -1]
 #endif
-BOX_LENGTH_IS(box_panel, 60);
-BOX_LENGTH_IS(display_box, 488);
+BOX_LENGTH_IS(box_panel, 58);
+BOX_LENGTH_IS(display_box, 472);
 BOX_LENGTH_IS(box_outcome, 16);
 BOX_LENGTH_IS(box_receiver, 520);
 BOX_LENGTH_IS(box_received, 16);

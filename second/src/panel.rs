@@ -3,6 +3,8 @@
 //! Document 01, "The box and its messages": "Each panel is of family W (speaks RS-232C and SDCP
 //! with VMC text) or family K (speaks KJW frames)."
 
+use crate::flip::Flip;
+
 /// "A group ID is never taken for a unit ID, though each is one byte."
 #[derive(Clone, Copy, Debug, PartialEq, Eq)]
 pub struct GroupId(pub u8);
@@ -113,7 +115,8 @@ pub enum RgbRange {
     Limited,
 }
 
-/// "ON or OFF after REMOTE, POWERSAVING, ... or FLIPHV, each a switch of its own."
+/// "ON or OFF after REMOTE, POWERSAVING, ... SILENTMODE, ... each a switch of its own." The three
+/// words that come last there are the panel's [`Flip`].
 #[derive(Clone, Copy, Debug, PartialEq, Eq)]
 pub enum Switch {
     Remote,
@@ -128,14 +131,11 @@ pub enum Switch {
     Led,
     ScreenSaver,
     SilentMode,
-    FlipH,
-    FlipV,
-    FlipHv,
 }
 
 impl Switch {
-    /// All fifteen, in the document's order.
-    pub const ALL: [Switch; 15] = [
+    /// All twelve, in the document's order.
+    pub const ALL: [Switch; 12] = [
         Switch::Remote,
         Switch::PowerSaving,
         Switch::KeyInhibit,
@@ -148,9 +148,6 @@ impl Switch {
         Switch::Led,
         Switch::ScreenSaver,
         Switch::SilentMode,
-        Switch::FlipH,
-        Switch::FlipV,
-        Switch::FlipHv,
     ];
 
     /// The switch's name, CAMERA FOCUS being two words.
@@ -168,9 +165,6 @@ impl Switch {
             Switch::Led => "LED",
             Switch::ScreenSaver => "SCREENSAVER",
             Switch::SilentMode => "SILENTMODE",
-            Switch::FlipH => "FLIPH",
-            Switch::FlipV => "FLIPV",
-            Switch::FlipHv => "FLIPHV",
         }
     }
 }
@@ -186,7 +180,8 @@ pub struct WSettings {
     pub mode: Mode,
     pub ntsc: Ntsc,
     pub rgb_range: RgbRange,
-    switches: [bool; 15],
+    switches: [bool; 12],
+    pub flip: Flip,
     /// The connector in use.
     pub input: Connector,
     connectors_on: [bool; 10],
@@ -210,7 +205,8 @@ impl WSettings {
             mode: Mode::Mode0,
             ntsc: Ntsc::Ntsc0,
             rgb_range: RgbRange::Full,
-            switches: [false; 15],
+            switches: [false; 12],
+            flip: Flip::AT_START,
             input: Connector::Composite,
             connectors_on: [true; 10],
             preset: Preset::D65,

@@ -3,6 +3,7 @@
 //! "Words are capitals-sensitive with one space between". "A word that should be a number and is
 //! none ends the reading with 6." What a console may put behind them is in document 02, §2.
 
+use crate::flip::FlipWord;
 use crate::panel::{Mode, Ntsc, RgbRange, Switch, WSettings};
 
 /// An understood data area.
@@ -25,6 +26,7 @@ pub enum Change {
     RgbRange(RgbRange),
     Reset,
     Switch(Switch, bool),
+    Flip(FlipWord, bool),
 }
 
 /// What a STATget asks for.
@@ -39,6 +41,7 @@ pub enum Name {
     Ntsc,
     RgbRange,
     Switch(Switch),
+    Flip(FlipWord),
 }
 
 impl Name {
@@ -55,6 +58,7 @@ impl Name {
             Name::RgbRange,
         ];
         names.extend(Switch::ALL.into_iter().map(Name::Switch));
+        names.extend(FlipWord::ALL.into_iter().map(Name::Flip));
         names
     }
 }
@@ -103,9 +107,17 @@ fn read_change(words: &[&[u8]]) -> Option<Change> {
         [b"RGB", b"RANGE", b"FULL"] => Some(Change::RgbRange(RgbRange::Full)),
         [b"RGB", b"RANGE", b"LIMITED"] => Some(Change::RgbRange(RgbRange::Limited)),
         [b"RESET"] => Some(Change::Reset),
-        [name @ .., b"ON"] => read_switch(name).map(|switch| Change::Switch(switch, true)),
-        [name @ .., b"OFF"] => read_switch(name).map(|switch| Change::Switch(switch, false)),
+        [name @ .., b"ON"] => read_turn(name, true),
+        [name @ .., b"OFF"] => read_turn(name, false),
         _ => None,
+    }
+}
+
+/// ON or OFF for the switch, or for the flip word, whose name these words are.
+fn read_turn(words: &[&[u8]], on: bool) -> Option<Change> {
+    match read_flip_word(words) {
+        Some(word) => Some(Change::Flip(word, on)),
+        None => read_switch(words).map(|switch| Change::Switch(switch, on)),
     }
 }
 
@@ -120,7 +132,10 @@ fn read_name(words: &[&[u8]]) -> Option<Name> {
         [b"MODE"] => Some(Name::Mode),
         [b"NTSC"] => Some(Name::Ntsc),
         [b"RGB", b"RANGE"] => Some(Name::RgbRange),
-        name => read_switch(name).map(Name::Switch),
+        name => match read_flip_word(name) {
+            Some(word) => Some(Name::Flip(word)),
+            None => read_switch(name).map(Name::Switch),
+        },
     }
 }
 
@@ -130,6 +145,16 @@ fn read_switch(words: &[&[u8]]) -> Option<Switch> {
     Switch::ALL
         .into_iter()
         .find(|switch| switch.name().as_bytes() == name)
+}
+
+/// The flip word that these words are.
+fn read_flip_word(words: &[&[u8]]) -> Option<FlipWord> {
+    let [name] = words else {
+        return None;
+    };
+    FlipWord::ALL
+        .into_iter()
+        .find(|word| word.name().as_bytes() == *name)
 }
 
 /// "0 to 100 (no sign, no leading zero)".
@@ -188,6 +213,7 @@ pub fn set(settings: &mut WSettings, change: Change) {
             settings.shift_v = 0;
         }
         Change::Switch(switch, on) => settings.turn(switch, on),
+        Change::Flip(word, on) => settings.flip.turn(word, on),
     }
 }
 
@@ -213,11 +239,13 @@ pub fn words(settings: &WSettings, name: Name) -> String {
             RgbRange::Full => "RGB RANGE FULL".to_string(),
             RgbRange::Limited => "RGB RANGE LIMITED".to_string(),
         },
-        Name::Switch(switch) => {
-            let state = if settings.is_on(switch) { "ON" } else { "OFF" };
-            format!("{} {}", switch.name(), state)
-        }
+        Name::Switch(switch) => on_or_off(switch.name(), settings.is_on(switch)),
+        Name::Flip(word) => on_or_off(word.name(), settings.flip.is_on(word)),
     }
+}
+
+fn on_or_off(name: &str, on: bool) -> String {
+    format!("{name} {}", if on { "ON" } else { "OFF" })
 }
 
 /// A shift with its sign, save 0.

@@ -7,6 +7,7 @@ use common::*;
 use second::address::{addressed, WayIn};
 use second::advert::{self, Wanted};
 use second::config::{configure, DisplayBox};
+use second::flip::{Flip, FlipWord};
 use second::panel::{Connector, GroupId, UnitId};
 
 fn words(held: &mut DisplayBox, text: &[u8]) -> Told {
@@ -471,6 +472,104 @@ fn the_data_length_is_of_the_data_as_sent() {
     bytes[12] = 18;
     assert_eq!(tcp(&mut held, 1, &bytes), (5, ng));
     assert_eq!(held, usual_box());
+}
+
+/// The flip of this word.
+fn flip_of(word: FlipWord) -> Flip {
+    let mut flip = Flip::AT_START;
+    flip.turn(word, true);
+    flip
+}
+
+// §4: "ON for a flip word makes it the panel's flip; OFF for it makes the flip none if that word's
+// flip was in force, and changes nothing otherwise." Every word, ON and OFF, from every flip; 0 and
+// OK without data each time, by TCP and by UDP.
+#[test]
+fn one_flip_three_words() {
+    let none = Flip::AT_START;
+    let [h, v, hv] = FlipWord::ALL.map(flip_of);
+    let told = [
+        "FLIPH ON",
+        "FLIPH OFF",
+        "FLIPV ON",
+        "FLIPV OFF",
+        "FLIPHV ON",
+        "FLIPHV OFF",
+    ];
+    let cases = [
+        (none, [h, none, v, none, hv, none]),
+        (h, [h, none, v, h, hv, h]),
+        (v, [h, v, v, none, hv, v]),
+        (hv, [h, hv, v, hv, hv, none]),
+    ];
+    for (before, after) in cases {
+        for (words, after) in told.iter().zip(after) {
+            let set = format!("STATset {words}").into_bytes();
+            let mut by_tcp = usual_box();
+            w(&mut by_tcp, 1).flip = before;
+            let mut expected = by_tcp.clone();
+            w(&mut expected, 1).flip = after;
+            let told = tcp(&mut by_tcp, 1, &packet(0, 0, &set));
+            assert_eq!(told, (0, ok(0, 0, b"")), "{before:?}, {words}");
+            assert_eq!(by_tcp, expected, "{before:?}, {words}");
+
+            let mut by_udp = usual_box();
+            for link in [1, 2, 3] {
+                w(&mut by_udp, link).flip = before;
+            }
+            let mut expected = by_udp.clone();
+            for link in [1, 2] {
+                w(&mut expected, link).flip = after;
+            }
+            assert_eq!(udp(&mut by_udp, &packet(1, 0xFF, &set)), 0);
+            assert_eq!(by_udp, expected, "{before:?}, {words}");
+        }
+    }
+}
+
+// §4: "STATget of a flip word says ON for the one in force", and OFF for the other two.
+#[test]
+fn the_flip_in_force_is_told() {
+    let [h, v, hv] = FlipWord::ALL.map(flip_of);
+    let cases = [
+        (Flip::AT_START, ["FLIPH OFF", "FLIPV OFF", "FLIPHV OFF"]),
+        (h, ["FLIPH ON", "FLIPV OFF", "FLIPHV OFF"]),
+        (v, ["FLIPH OFF", "FLIPV ON", "FLIPHV OFF"]),
+        (hv, ["FLIPH OFF", "FLIPV OFF", "FLIPHV ON"]),
+    ];
+    for (flip, told) in cases {
+        let mut held = usual_box();
+        w(&mut held, 1).flip = flip;
+        for (name, words) in ["FLIPH", "FLIPV", "FLIPHV"].iter().zip(told) {
+            let get = [b"STATget ", name.as_bytes()].concat();
+            let reply = ok(0, 0, words.as_bytes());
+            assert_eq!(tcp(&mut held, 1, &packet(0, 0, &get)), (0, reply));
+        }
+    }
+    assert_eq!(w(&mut usual_box(), 1).flip, Flip::AT_START);
+}
+
+// §4: nothing else has a part in the flip.
+#[test]
+fn nothing_else_flips() {
+    let mut held = usual_box();
+    assert_eq!(words(&mut held, b"STATset FLIPV ON").0, 0);
+    let before = held.clone();
+    assert_eq!(words(&mut held, b"STATset RESET").0, 0);
+    for bad in [
+        &b"STATset FLIP ON"[..],
+        b"STATset FLIP OFF",
+        b"STATset FLIPVH ON",
+        b"STATset FLIPV",
+        b"STATset FLIP V ON",
+        b"STATset FLIPH on",
+        b"STATset FLIPH ON ON",
+        b"STATset FLIPH FLIPV ON",
+        b"STATget FLIP",
+    ] {
+        assert_eq!(words(&mut held, bad), (6, ok(0, 0, b"")), "{bad:?}");
+    }
+    assert_eq!(held, before);
 }
 
 // NG echoes the item as it came.

@@ -20,6 +20,14 @@ fn the_records_at_start() {
     assert_eq!(text, format!("box 0\n{AT_START}{k}none\n"));
 }
 
+// §4: "the three flip words say ON for the one in force".
+#[test]
+fn the_flip_in_force_is_shown() {
+    let on = "tcp 1 512 030B534F4E59000000B00000105354415473657420464C495056204F4E\n";
+    let text = answers(format!("box W 1 2\n{on}show 1\n").as_bytes());
+    assert!(text.ends_with(&AT_START.replace("FLIPV OFF", "FLIPV ON")));
+}
+
 #[test]
 fn empty_lines_and_comments_are_passed_over() {
     assert_eq!(answers(b""), "");

@@ -310,7 +310,7 @@ static void break_a_rule(struct display_box *box, size_t rule)
     case 2: w->unit.id = 100; break;
     case 3: w->w.settings[BOX_PHASE] = 101; break;
     case 4: w->w.settings[BOX_MODE] = 3; break;
-    case 5: w->w.settings[BOX_FLIPHV] = 2; break;
+    case 5: w->w.settings[BOX_FLIP] = BOX_FLIP_HV + 1; break;
     case 6: w->w.shifts[BOX_SHIFTV] = -31; break;
     case 7: w->w.inputs.used = 1; break;
     case 8: w->w.inputs.preset = 1; break;

@@ -4,7 +4,7 @@
  * compiler sees, the sizes and offsets as sums of what stands before. Then what
  * the archive does: where the start values stand, which bytes a message sets,
  * which bytes are judged, and which bytes a piece sets in a receiver. What is
- * expected is document 01's, and of receivers document 02's.
+ * expected is document 01's, and of receivers and the flip document 02's.
  */
 #include "areas.h"
 #include "messages.h"
@@ -14,9 +14,9 @@
 #define AT(record, field, sum) _Static_assert(offsetof(struct record, field) == (sum), #record "." #field)
 #define SIZE(record, sum) _Static_assert(sizeof(struct record) == (sum), #record)
 
-_Static_assert(BOX_LAYOUT == 1, "the number of these sizes and offsets: another sum, another number");
+_Static_assert(BOX_LAYOUT == 2, "the number of these sizes and offsets: another sum, another number");
 _Static_assert(BOX_PANELS == 8 && BOX_CONNECTORS == 10, "panels and connectors");
-_Static_assert(BOX_SETTINGS == 3 + 3 + 15 && BOX_SHIFTS == 2, "levels, choices and switches; shifts");
+_Static_assert(BOX_SETTINGS == 3 + 3 + 12 + 1 && BOX_SHIFTS == 2, "levels, choices, switches and the flip; shifts");
 _Static_assert(BOX_FAMILY_W == 'W' && BOX_FAMILY_K == 'K', "families");
 _Static_assert(BOX_AREA_LENGTH == 512 && BOX_ADVERT_LENGTH == 122 && BOX_PACKET_LENGTH == 512, "areas");
 
@@ -35,11 +35,11 @@ AT(box_balance, biases, 3 * 2);
 SIZE(box_balance, 3 * 2 + 3 * 2);
 
 AT(box_w_record, settings, 0);
-AT(box_w_record, shifts, 21);
-AT(box_w_record, spare, 21 + 2);
-AT(box_w_record, inputs, 21 + 2 + 1);
-AT(box_w_record, balance, 21 + 2 + 1 + 12);
-SIZE(box_w_record, 21 + 2 + 1 + 12 + 12);
+AT(box_w_record, shifts, 19);
+AT(box_w_record, spare, 19 + 2);
+AT(box_w_record, inputs, 19 + 2 + 1);
+AT(box_w_record, balance, 19 + 2 + 1 + 12);
+SIZE(box_w_record, 19 + 2 + 1 + 12 + 12);
 
 AT(box_k_record, power, 0);
 AT(box_k_record, amut, 1);
@@ -55,12 +55,12 @@ AT(box_panel, group, 1);
 AT(box_panel, unit, 1 + 1);
 AT(box_panel, spare, 1 + 1 + 1);
 AT(box_panel, w, 1 + 1 + 1 + 1);
-AT(box_panel, k, 4 + 48);
-SIZE(box_panel, 4 + 48 + 8);
+AT(box_panel, k, 4 + 46);
+SIZE(box_panel, 4 + 46 + 8);
 
 AT(display_box, count, 0);
 AT(display_box, panels, 8);
-SIZE(display_box, 8 + 8 * 60);
+SIZE(display_box, 8 + 8 * 58);
 _Static_assert(_Alignof(struct display_box) == 8, "a box is aligned as its count");
 
 /* The one record with padding: it is handed back by value, and lies in no box. */
@@ -119,9 +119,7 @@ static const struct field w_fields[] = {
     SWITCH(w.settings[BOX_LED], 0),
     SWITCH(w.settings[BOX_SCREENSAVER], 0),
     SWITCH(w.settings[BOX_SILENTMODE], 0),
-    SWITCH(w.settings[BOX_FLIPH], 0),
-    SWITCH(w.settings[BOX_FLIPV], 0),
-    SWITCH(w.settings[BOX_FLIPHV], 0),
+    CHOICE(w.settings[BOX_FLIP], 3, 0),
     SHIFT(w.shifts[BOX_SHIFTH]),
     SHIFT(w.shifts[BOX_SHIFTV]),
     { SPOT(w.inputs.used), 0, 0, 11, BIT(1) | BIT(3), 0 },
@@ -265,6 +263,19 @@ static void sets_words(struct display_box *box, size_t link, const char *words, 
     sets(box, BOX_WAY_TCP, link, sdcp_packet(0, 0, data), spot, value);
 }
 
+/* A set that changes nothing is carried out all the same. */
+static void keeps_words(struct display_box *box, size_t link, const char *words)
+{
+    uint8_t area[BOX_AREA_LENGTH];
+    char data[64];
+    struct display_box before = *box;
+    snprintf(data, sizeof data, "STATset %s", words);
+    struct message m = sdcp_packet(0, 0, data);
+    int answer = box_take_tcp(box, link, m.bytes, m.length, area, sizeof area).answer;
+    expect(answer == 0, "such a set is carried out", answer, (long)link);
+    expect(memcmp(box, &before, sizeof before) == 0, "and changes nothing", (long)link, 0);
+}
+
 static void sets_levels_and_choices(struct display_box *box, size_t link)
 {
     static const struct { struct spot spot; long value; const char *words; } orders[] = {
@@ -298,6 +309,46 @@ static void sets_switches(struct display_box *box, size_t link)
             sets_words(box, link, words, f->spot, value);
         }
     }
+}
+
+/* A question is answered with these words, and the box is as it was. */
+static void tells_words(struct display_box *box, size_t link, const char *name, const char *words)
+{
+    uint8_t area[BOX_AREA_LENGTH];
+    char data[64];
+    struct display_box before = *box;
+    snprintf(data, sizeof data, "STATget %s", name);
+    struct message m = sdcp_packet(0, 0, data);
+    struct box_outcome o = box_take_tcp(box, link, m.bytes, m.length, area, sizeof area);
+    size_t n = strlen(words);
+    expect(o.answer == 0 && o.length == 13 + n, "a question is answered", o.answer, (long)o.length);
+    expect(memcmp(area + 13, words, n) == 0, "with the words of the value", (long)link, (long)n);
+    expect(memcmp(box, &before, sizeof before) == 0, "a question sets nothing", (long)link, 0);
+}
+
+/* Document 02, §4: a word ON or OFF where that flip is in force, and what the word says of it before. */
+static void sets_flip(struct display_box *box, size_t link, size_t word, bool on, long in_force)
+{
+    static const struct spot flip = SPOT(w.settings[BOX_FLIP]);
+    long own = (long)word + 1, next = on ? own : in_force == own ? BOX_FLIP_NONE : in_force;
+    char order[32], said[32];
+    snprintf(order, sizeof order, "%s %s", flip_words[word], on ? "ON" : "OFF");
+    snprintf(said, sizeof said, "%s %s", flip_words[word], in_force == own ? "ON" : "OFF");
+    put(&box->panels[link - 1], flip, in_force);
+    tells_words(box, link, flip_words[word], said);
+    if (next == in_force)
+        keeps_words(box, link, order);
+    else
+        sets_words(box, link, order, flip, next);
+}
+
+static void sets_flips(struct display_box *box, size_t link)
+{
+    for (long in_force = BOX_FLIP_NONE; in_force <= BOX_FLIP_HV; in_force++)
+        for (size_t word = 0; word < FLIPS; word++) {
+            sets_flip(box, link, word, true, in_force);
+            sets_flip(box, link, word, false, in_force);
+        }
 }
 
 static void sets_block(struct display_box *box, size_t link, const uint8_t *block, size_t n, struct spot spot, long value)
@@ -369,6 +420,7 @@ static void messages_set(const char *letters)
         }
         sets_levels_and_choices(&box, link);
         sets_switches(&box, link);
+        sets_flips(&box, link);
         sets_inputs(&box, link);
         sets_balance(&box, link);
     }

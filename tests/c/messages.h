@@ -10,14 +10,17 @@
 #include <stdlib.h>
 #include <string.h>
 
-/* Document 01's lists, in its order, which is that of the record. */
+/* Document 01's lists, in its order, which is that of the record; the flip words share one place, and the first one's flip is 1. */
 static const char *const switch_names[] = {
     "REMOTE", "POWERSAVING", "KEYINHIBIT", "TALLYGREEN", "TALLYRED", "HVDELAY", "BLUEONLY", "MONOCHR",
-    "CAMERA FOCUS", "LED", "SCREENSAVER", "SILENTMODE", "FLIPH", "FLIPV", "FLIPHV",
+    "CAMERA FOCUS", "LED", "SCREENSAVER", "SILENTMODE",
 };
 #define SWITCHES (sizeof switch_names / sizeof switch_names[0])
+static const char *const flip_words[] = { "FLIPH", "FLIPV", "FLIPHV" };
+#define FLIPS (sizeof flip_words / sizeof flip_words[0])
 static const uint8_t connector_codes[] = { 0, 2, 4, 5, 6, 7, 8, 9, 10, 11 };
-_Static_assert(SWITCHES == BOX_SETTINGS - BOX_REMOTE && sizeof connector_codes == BOX_CONNECTORS, "as many as the record has");
+_Static_assert(SWITCHES == BOX_FLIP - BOX_REMOTE && sizeof connector_codes == BOX_CONNECTORS, "as many as the record has");
+_Static_assert(FLIPS == BOX_FLIP_HV && BOX_FLIP_NONE == 0, "a word for each flip but none");
 
 struct message {
     uint8_t bytes[600];

@@ -65,6 +65,8 @@ static void put_w(const struct box_panel *p)
     printf(" MODE%d %s RGB RANGE %s", s[BOX_MODE], ntsc[s[BOX_NTSC] & 1], ranges[s[BOX_RGB_RANGE] & 1]);
     for (size_t i = 0; i < SWITCHES; i++)
         printf(" %s %s", switch_names[i], s[BOX_REMOTE + i] == 1 ? "ON" : "OFF");
+    for (size_t i = 0; i < FLIPS; i++)
+        printf(" %s %s", flip_words[i], s[BOX_FLIP] == i + 1 ? "ON" : "OFF");
     printf(" INPUT %d ON", p->w.inputs.used);
     for (size_t i = 0; i < BOX_CONNECTORS; i++)
         if (p->w.inputs.on[i] == 1)

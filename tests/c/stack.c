@@ -121,10 +121,11 @@ static void takes_packets(const struct display_box *box)
     char data[64];
     for (size_t i = 0; i < LENGTH_OF(words); i++)
         takes_words(box, words[i]);
-    for (size_t i = 0; i < SWITCHES; i++) {
-        snprintf(data, sizeof data, "STATset %s ON", switch_names[i]);
+    for (size_t i = 0; i < SWITCHES + FLIPS; i++) {
+        const char *name = i < SWITCHES ? switch_names[i] : flip_words[i - SWITCHES];
+        snprintf(data, sizeof data, "STATset %s ON", name);
         takes_words(box, data);
-        snprintf(data, sizeof data, "STATget %s", switch_names[i]);
+        snprintf(data, sizeof data, "STATget %s", name);
         takes_words(box, data);
     }
 }

@@ -14,7 +14,7 @@ ghost use Rattle.panels.specs.Valid.{okPanel, valid};
 ghost use Rattle.box_rules.specs.Pairs.{idsOf, noIds, judged};
 ghost use Rattle.box_rules.specs.Ring.{pairAt, Sees, apartBy, allApart};
 
-// What a panel is called by: three bytes, where a whole panel is sixty. Family 0 is no panel.
+// What a panel is called by: three bytes, where a whole panel is 58. Family 0 is no panel.
 pub struct Ids {
     pub family: u8,
     pub group: GroupId,

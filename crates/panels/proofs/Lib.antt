@@ -1,3 +1,4 @@
 pub mod Boxes
 pub mod Determined
+mod Examples
 pub mod Ranges

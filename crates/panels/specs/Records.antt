@@ -58,7 +58,7 @@ zeroPanel = record {
   unit = record { 0 = 0 };
   spare = 0;
   w = record {
-    settings = replicate 21 0;
+    settings = replicate 19 0;
     shifts = replicate 2 (pos 0);
     spare = 0;
     inputs = record { used = 0; preset = 0; on = replicate 10 0 };

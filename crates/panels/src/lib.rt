@@ -35,10 +35,10 @@ pub struct Balance {
     pub biases: [i16; 3],
 }
 
-// The settings of a W panel: those of the table, SHIFTH and SHIFTV, the inputs and the white balance.
+// The settings of a W panel: those of the table and the flip, SHIFTH and SHIFTV, the inputs and the white balance.
 #[repr(C)]
 pub struct WRecord {
-    pub settings: [u8; 21],
+    pub settings: [u8; 19],
     pub shifts: [i8; 2],
     pub spare: u8,
     pub inputs: Inputs,
@@ -85,7 +85,7 @@ pub fn zero_panel() -> Panel
         unit: UnitId(0),
         spare: 0,
         w: WRecord {
-            settings: [0; 21],
+            settings: [0; 19],
             shifts: [0; 2],
             spare: 0,
             inputs: Inputs {

@@ -1,4 +1,4 @@
--- How many words a setting has and how long its texts are, each from one test computed over the table.
+-- How many words a setting has and how long its texts are, each from one test computed over the names.
 use Prim.Native.Nat.{ℕ, _≤_}
 use mathlib.Core.Path.{_≡_, refl, ap}
 use mathlib.Core.Bool.{Bool, true, false}
@@ -9,22 +9,22 @@ use lib.ListN.{length, getD, List·getD-eq-default}
 use borrow.Author.Tests.{ltb-true, ltb-false}
 use Rattle.laws.specs.Lists.{everyBelow}
 use Rattle.laws.proofs.Table.{below}
-use Rattle.settings.specs.Table.{Setting, table, nameCount}
+use Rattle.settings.specs.Table.{Setting, named, nameCount}
 use Rattle.setting_texts.specs.Names.{names, leads, leadOf, wordsOf, wordOf}
 
--- the names of the table and the two shifts
+-- the names of the settings and the two shifts
 pub names-counted : length names ≡ nameCount
 names-counted = refl
 
 fewWords : ℕ → Bool
 fewWords k = leb (length (wordsOf k)) 3
 
--- behind the table there are no words
+-- behind the settings there are no words
 pub none : (k v : ℕ) → 21 ≤ k → wordOf k v ≡ []
-none k v h = ap (λ (ws : List (List ℕ)). getD ws v []) (List·getD-eq-default (map (λ (s : Setting). s .words) table) [] h)
+none k v h = ap (λ (ws : List (List ℕ)). getD ws v []) (List·getD-eq-default (map (λ (s : Setting). s .words) named) [] h)
 
 pub no-words : (k : ℕ) → 21 ≤ k → length (wordsOf k) ≡ 0
-no-words k h = ap length (List·getD-eq-default (map (λ (s : Setting). s .words) table) [] h)
+no-words k h = ap length (List·getD-eq-default (map (λ (s : Setting). s .words) named) [] h)
 
 pub few-words : (k : ℕ) → length (wordsOf k) ≤ 3
 unfolding fewWords

@@ -1,7 +1,13 @@
--- The count of the settings is that of the table's rows: by computing.
+-- The names of the settings are as many as the rows of both tables, and the flip's place is the last, behind the first table: by computing.
 use mathlib.Core.Path.{_≡_, refl}
 use lib.ListN.{length}
-use Rattle.settings.specs.Table.{table, settingCount}
+use Rattle.settings.specs.Table.{table, flipPlace, placeCount, named, settingCount, mosts}
 
-pub table-counted : length table ≡ settingCount
-table-counted = refl
+pub named-counted : length named ≡ settingCount
+named-counted = refl
+
+pub flip-behind : length table ≡ flipPlace
+flip-behind = refl
+
+pub places-counted : length mosts ≡ placeCount
+places-counted = refl

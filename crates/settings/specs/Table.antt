@@ -1,8 +1,9 @@
--- Document 01, "SDCP and VMC" and "Start values": the one table of a W panel's settings, in the order of its record.
+-- Document 01, "SDCP and VMC" and "Start values", and document 02, §4: the one table of a W panel's settings, in the order of its
+-- record.
 use Prim.Native.Nat.{ℕ, suc, _-_}
 use Prim.Native.String.{String}
 use mathlib.Core.Bool.{cond}
-use mathlib.Core.List.{List, [], _∷_, map}
+use mathlib.Core.List.{List, [], _∷_, _++_, map}
 use lib.ListN.{length}
 use lib.IntN.{ℤ, negsuc}
 use Rattle.laws.specs.Bytes.{ascii, same}
@@ -41,7 +42,7 @@ abbrev pub switch : String → ℕ → Setting
 switch name start = choice name space (ascii "OFF" ∷ ascii "ON" ∷ []) start
 
 -- "MODE0, MODE1, MODE2; NTSC0, NTSC75; RGB RANGE FULL or LIMITED"; and the start values: "PHASE 50, CHROMA 50, VOLUME 30,
--- [..] MODE0, NTSC0, RGB RANGE FULL, switches OFF but REMOTE ON"
+-- [..] MODE0, NTSC0, RGB RANGE FULL, switches OFF but REMOTE ON". Each has a place of its own in the record
 abbrev pub table : List Setting
 table =
     level "PHASE" 50 ∷
@@ -61,12 +62,31 @@ table =
     switch "CAMERA FOCUS" 0 ∷
     switch "LED" 0 ∷
     switch "SCREENSAVER" 0 ∷
-    switch "SILENTMODE" 0 ∷
-    switch "FLIPH" 0 ∷
-    switch "FLIPV" 0 ∷
-    switch "FLIPHV" 0 ∷ []
+    switch "SILENTMODE" 0 ∷ []
 
--- the places of the names: the levels stand first, then the choices, each a setting of the table; behind them SHIFTH and SHIFTV
+-- Document 02, §4, "The panel has a single flip: none, H, V or HV": 0, 1, 2 and 3 in the record's place behind the table's settings
+abbrev pub flipPlace : ℕ
+flipPlace = 18
+
+abbrev pub noFlip : ℕ
+noFlip = 0
+
+abbrev pub mostFlip : ℕ
+mostFlip = 3
+
+-- so many places has the record
+abbrev pub placeCount : ℕ
+placeCount = 19
+
+-- its three words, each with ON or OFF behind it
+abbrev pub flips : List Setting
+flips = switch "FLIPH" 0 ∷ switch "FLIPV" 0 ∷ switch "FLIPHV" 0 ∷ []
+
+-- all that has a name, in the order of the names
+abbrev pub named : List Setting
+named = table ++ flips
+
+-- the numbers of the names: the levels stand first, then the choices, the flip words last of them; behind them SHIFTH and SHIFTV
 abbrev pub levelCount : ℕ
 levelCount = 3
 
@@ -84,9 +104,13 @@ placeNamed name (s ∷ ss) = cond (same name (s .name)) 0 (suc (placeNamed name 
 abbrev pub remote : ℕ
 remote = placeNamed (ascii "REMOTE") table
 
--- the columns of numbers
+-- the columns of numbers, as they stand in the record: the table's, and behind them the flip's, which starts as none
 abbrev pub mosts : List ℕ
-mosts = map (λ (s : Setting). s .most) table
+mosts = map (λ (s : Setting). s .most) table ++ (mostFlip ∷ [])
 
 abbrev pub starts : List ℕ
-starts = map (λ (s : Setting). s .start) table
+starts = map (λ (s : Setting). s .start) table ++ (noFlip ∷ [])
+
+-- the greatest value behind each name
+abbrev pub tops : List ℕ
+tops = map (λ (s : Setting). s .most) named

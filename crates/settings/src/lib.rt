@@ -8,18 +8,21 @@ pub const MOST_LEVEL: u8 = 100;
 // The greatest size of a shift.
 pub const MOST_SHIFT: u64 = 30;
 
-// The places of the names: the levels stand first, then the choices, each a setting of the table; behind them SHIFTH and SHIFTV.
+// The numbers of the names: the levels stand first, then the choices, the flip words last of them; behind them SHIFTH and SHIFTV.
 pub const LEVEL_COUNT: usize = 3;
 
 pub const SETTING_COUNT: usize = 21;
 
 pub const NAME_COUNT: usize = 23;
 
-// REMOTE's place in the table.
+// REMOTE's place in the record.
 pub const REMOTE: usize = 6;
 
-// Each setting's greatest value, in the order of the table.
-const MOST: [u8; 21] = [
+// The flip's place in the record, behind those that have a name each; the first flip word's number is the same.
+pub const FLIP: usize = 18;
+
+// Each place's greatest value, in the order of the record.
+const MOST: [u8; 19] = [
     MOST_LEVEL, // PHASE
     MOST_LEVEL, // CHROMA
     MOST_LEVEL, // VOLUME
@@ -38,13 +41,11 @@ const MOST: [u8; 21] = [
     1, // LED
     1, // SCREENSAVER
     1, // SILENTMODE
-    1, // FLIPH
-    1, // FLIPV
-    1, // FLIPHV
+    3, // the flip: none, H, V or HV
 ];
 
-// Each setting's start value.
-const START: [u8; 21] = [
+// Each place's start value.
+const START: [u8; 19] = [
     50, // PHASE
     50, // CHROMA
     30, // VOLUME
@@ -63,20 +64,18 @@ const START: [u8; 21] = [
     0, // LED
     0, // SCREENSAVER
     0, // SILENTMODE
-    0, // FLIPH
-    0, // FLIPV
-    0, // FLIPHV
+    0, // the flip: none
 ];
 
-// The greatest value of each setting.
-pub fn most_values() -> [u8; 21]
+// The greatest value at each place.
+pub fn most_values() -> [u8; 19]
     ensures { λ r. ⌜ r ≡ mosts ⌝ }
 {
     MOST
 }
 
-// The start value of each setting.
-pub fn start_values() -> [u8; 21]
+// The start value at each place.
+pub fn start_values() -> [u8; 19]
     ensures { λ r. ⌜ r ≡ starts ⌝ }
 {
     START

@@ -1,6 +1,6 @@
 -- What was said to be done is kept: the panel that takes its turn keeps it by its protocol's own theorem, and the next question asks that panel.
 use Prim.Native.Nat.{ℕ, _+_, _<_}
-use mathlib.Core.Path.{_≡_, ap, subst, _∙_}
+use mathlib.Core.Path.{_≡_, sym, ap, subst, _∙_}
 use mathlib.Core.Bool.{true, not}
 use mathlib.Core.List.{List}
 use native.Mathlib.Omega.{arith}
@@ -10,11 +10,12 @@ use lib.ListN.{length, getD}
 use lib.Seq.{getD-set-same}
 use Rattle.laws.proofs.Conditions.{passed}
 use Rattle.terms.specs.declared.Answer.the-variants.{Done, WrongLength, NotForUs}
+use Rattle.settings.specs.Table.{flipPlace, placeCount}
 use Rattle.turns.specs.Turns.{Turn, taken}
 use Rattle.panels.specs.declared.Panel.{Panel}
 use Rattle.panels.specs.declared.WRecord.{WRecord}
 use Rattle.panels.specs.declared.DisplayBox.{DisplayBox}
-use Rattle.vmc.specs.Orders.{carried, saysOf}
+use Rattle.vmc.specs.Orders.{flipOf, flippedTo, valueAt, carried, saysOf}
 use Rattle.vmc_asks.specs.Asks.{readData}
 use Rattle.vmc_tells.specs.Texts.{textOf, setWords, moveWords}
 use Rattle.vmc_asks.specs.declared.Order.{Order}
@@ -23,8 +24,9 @@ use Rattle.vmc_tells.specs.declared.Says.{Says}
 use Rattle.vmc_tells.specs.declared.Says.the-variants.{Value, Offset}
 use Rattle.vmc_asks.specs.declared.Words.{Words}
 use Rattle.vmc_asks.specs.declared.Words.the-variants.{Understood as UnderstoodWords, NotUnderstood as NotUnderstoodWords}
+use Rattle.vmc.proofs.Flip.{isFlip, flip-from, flip-below, own-value, flip-assigned, assigned-at}
 use Rattle.vmc.proofs.Validity.{understood-fits}
-use Rattle.vmc.proofs.AskedBack.{set-told, shift-told, reset-told}
+use Rattle.vmc.proofs.AskedBack.{set-told, others-told, shift-told, reset-told}
 use Rattle.sdcp_asks.specs.Asks.{isOurs, isBroken, inWords, dataOf, heardOf}
 use Rattle.sdcp.specs.Replies as packets
 use Rattle.sdcp_asks.specs.declared.Heard.the-variants.{Refused, Broken, Understood}
@@ -80,11 +82,17 @@ module _ (b : DisplayBox) (m : Message) (i : ℕ) (p : List ℕ) (c : Brings p m
   record-is : (o : Order) → heardOf p ≡ Understood o → panelAt i (step b m .box) .w ≡ carried o (panelAt i b .w)
   record-is o e = ap (λ (x : Panel). x .w) (obeyed p o c e (done-reaches b m i d a))
 
-  set-kept : (k v : ℕ) → heardOf p ≡ Understood (Set k v) → length (panelAt i b .w .settings) ≡ 21 → getD (panelAt i (step b m .box) .w .settings) k 0 ≡ v
+  set-kept : (k v : ℕ) → heardOf p ≡ Understood (Set k v) → length (panelAt i b .w .settings) ≡ placeCount → valueAt k (panelAt i (step b m .box) .w .settings) ≡ v
   unfolding carried
   set-kept k v e s =
-      let h = understood-fits (dataOf p) (Set k v) (heard-words p (Set k v) e) .0 in
-      ap (λ (w : WRecord). getD (w .settings) k 0) (record-is (Set k v) e) ∙ getD-set-same (panelAt i b .w .settings) k v 0 (omega arith)
+      let f = understood-fits (dataOf p) (Set k v) (heard-words p (Set k v) e) in
+      ap (λ (w : WRecord). valueAt k (w .settings)) (record-is (Set k v) e) ∙ assigned-at k v (panelAt i b .w .settings) (f .0) (f .1) s
+
+  flip-kept : (k v : ℕ) → heardOf p ≡ Understood (Set k v) → isFlip k ≡ true → length (panelAt i b .w .settings) ≡ placeCount → getD (panelAt i (step b m .box) .w .settings) flipPlace 0 ≡ flippedTo (flipOf k) v (getD (panelAt i b .w .settings) flipPlace 0)
+  unfolding carried
+  flip-kept k v e f s =
+      let now = panelAt i b .w .settings in
+      ap (λ (w : WRecord). getD (w .settings) flipPlace 0) (record-is (Set k v) e) ∙ rw (flip-assigned k v now (flip-from k f) (flip-below k f)) (getD-set-same now flipPlace (flippedTo (flipOf k) v (getD now flipPlace 0)) 0 (omega arith))
 
   shift-kept : (axis : ℕ) (z : ℤ) → heardOf p ≡ Understood (Shift axis z) → length (panelAt i b .w .shifts) ≡ 2 → getD (panelAt i (step b m .box) .w .shifts) axis (pos 0) ≡ z
   unfolding carried
@@ -108,16 +116,31 @@ module _ (c : List ℕ) (before : List Message) (m : Message) (i : ℕ) (p : Lis
   arrays : Shaped (panelAt i (runFrom c before) .w)
   arrays = shaped c before (done-reaches (runFrom c before) m i d a)
 
-  -- a set stands in the record
-  pub stands : (k v : ℕ) → heardOf p ≡ Understood (Set k v) → getD (panelAt i (step (runFrom c before) m .box) .w .settings) k 0 ≡ v
-  stands k v e = set-kept (runFrom c before) m i p br d a k v e (arrays .settings-21)
+  -- a set stands in the record: it is the value behind its name
+  pub stands : (k v : ℕ) → heardOf p ≡ Understood (Set k v) → valueAt k (panelAt i (step (runFrom c before) m .box) .w .settings) ≡ v
+  stands k v e = set-kept (runFrom c before) m i p br d a k v e (arrays .settings-19)
+
+  -- the table's names have it at a place each
+  pub own-stands : (k v : ℕ) → heardOf p ≡ Understood (Set k v) → k < flipPlace → getD (panelAt i (step (runFrom c before) m .box) .w .settings) k 0 ≡ v
+  own-stands k v e h = sym (own-value k (panelAt i (step (runFrom c before) m .box) .w .settings) h) ∙ stands k v e
+
+  -- and the flip words in the flip: document 02, §4
+  pub flip-stands : (k v : ℕ) → heardOf p ≡ Understood (Set k v) → isFlip k ≡ true → getD (panelAt i (step (runFrom c before) m .box) .w .settings) flipPlace 0 ≡ flippedTo (flipOf k) v (getD (panelAt i (runFrom c before) .w .settings) flipPlace 0)
+  flip-stands k v e f = flip-kept (runFrom c before) m i p br d a k v e f (arrays .settings-19)
 
   -- and is told
   pub stands-asked : (k v : ℕ) → heardOf p ≡ Understood (Set k v) → ToldLater (step (runFrom c before) m .box) i k (setWords k v)
   unfolding textOf
   stands-asked k v e =
-      let told = set-told (dataOf p) k v (panelAt i (runFrom c before) .w) (heard-words p (Set k v) e) (arrays .settings-21) in
+      let told = set-told (dataOf p) k v (panelAt i (runFrom c before) .w) (heard-words p (Set k v) e) (arrays .settings-19) in
       told-later (runFrom c before) m i p br d a (Set k v) k (Value k v) e told
+
+  -- ON for a flip word ends the other two: they are told OFF
+  pub flip-ends : (k j : ℕ) → heardOf p ≡ Understood (Set k 1) → isFlip k ≡ true → isFlip j ≡ true → (j ≡ k → ⊥) → ToldLater (step (runFrom c before) m .box) i j (setWords j 0)
+  unfolding textOf
+  flip-ends k j e f g n =
+      let told = others-told k j (panelAt i (runFrom c before) .w) f g n (arrays .settings-19) in
+      told-later (runFrom c before) m i p br d a (Set k 1) j (Value j 0) e told
 
   -- a shift stands in the record
   pub shift-stands : (axis : ℕ) (z : ℤ) → heardOf p ≡ Understood (Shift axis z) → getD (panelAt i (step (runFrom c before) m .box) .w .shifts) axis (pos 0) ≡ z

@@ -7,6 +7,7 @@ use lib.IntN.{ℤ, pos, negsuc}
 use lib.ListN.{length, getD, take, drop, replicate}
 use Rattle.laws.specs.Bytes.{ascii}
 use Rattle.terms.specs.Answers.{numberOf}
+use Rattle.settings.specs.Table.{flipPlace}
 use Rattle.panels.specs.Records.{familyW, familyK}
 use Rattle.configure.specs.Configure.{configured}
 use Rattle.panels.specs.declared.Panel.{Panel}
@@ -67,6 +68,10 @@ volume p = pos (getD (p .w .settings) 2 0)
 -- the four volumes, that of the K panel's unused W settings too
 abbrev volumes : DisplayBox → List ℤ
 volumes b = map volume (take 4 (b .panels))
+
+-- the four flips
+abbrev flips : DisplayBox → List ℤ
+flips b = map (λ (p : Panel). pos (getD (p .w .settings) flipPlace 0)) (take 4 (b .panels))
 
 abbrev shiftH : DisplayBox → List ℤ
 shiftH b = getD (panelAt 0 b .w .shifts) 0 (pos 0) ∷ []
@@ -155,6 +160,10 @@ toGroup group = udp (packet group 0xff 0x00 0x00 0x11 (ascii "STATset VOLUME 40"
 abbrev ended : ℕ → ℕ → List ℕ
 ended group unit = packet group unit 0x00 0x00 0x13 (ascii "STATset VOLUME 40" ++ (0x20 ∷ 0x00 ∷ []))
 
+-- FLIPHV ON to the W panels of group 1
+abbrev flippedHv : Message
+flippedHv = udp (packet 0x01 0xff 0x00 0x00 0x11 (ascii "STATset FLIPHV ON"))
+
 abbrev remoteAsked : ℕ → ℕ → Message
 remoteAsked link room = rs232c link (0x02 ∷ 0x03 ∷ 0x01 ∷ 0x41 ∷ 0x6e ∷ 0x4d ∷ []) (lent room)
 
@@ -180,6 +189,10 @@ more =
     -- document 02, §2: a space and 00h behind the words are taken off, by TCP and by UDP
     leaves (tcp 1 (ended 0x00 0x00) (lent 512)) 0 ok volumes (pos 40 ∷ pos 30 ∷ pos 30 ∷ pos 30 ∷ []) ∷
     leaves (udp (ended 0x01 0xff)) 0 [] volumes (pos 40 ∷ pos 40 ∷ pos 30 ∷ pos 30 ∷ []) ∷
+    -- document 02, §4: the last ON is the flip, not both; OFF for another word leaves it; OFF for its own ends it
+    record { before = onTcp 0x10 "STATset FLIPH ON" ∷ onTcp 0x10 "STATset FLIPV ON" ∷ []; message = onTcp 0x0d "STATget FLIPH"; answer = 0; reply = packet 0x00 0x00 0x01 0x00 0x09 (ascii "FLIPH OFF"); looks = flips; values = pos 2 ∷ pos 0 ∷ pos 0 ∷ pos 0 ∷ [] } ∷
+    record { before = flippedHv ∷ []; message = onTcp 0x11 "STATset FLIPH OFF"; answer = 0; reply = ok; looks = flips; values = pos 3 ∷ pos 3 ∷ pos 0 ∷ pos 0 ∷ [] } ∷
+    record { before = flippedHv ∷ []; message = onTcp 0x12 "STATset FLIPHV OFF"; answer = 0; reply = ok; looks = flips; values = pos 0 ∷ pos 3 ∷ pos 0 ∷ pos 0 ∷ [] } ∷
     -- by TCP on link 4 to the pair 1/2: that panel acts, and the reply is in the link's area
     leaves (tcp 4 (packet 0x01 0x02 0x00 0x00 0x11 (ascii "STATset VOLUME 40")) (lent 600)) 0 (packet 0x01 0x02 0x01 0x00 0x00 []) volumes (pos 30 ∷ pos 40 ∷ pos 30 ∷ pos 30 ∷ []) ∷
     -- the pair 2/2, which no panel has: 4

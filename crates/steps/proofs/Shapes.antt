@@ -9,6 +9,7 @@ use lib.ListN.{length, getD, set, take, drop, length-set}
 use Rattle.laws.specs.Lists.{every, places}
 use Rattle.laws.proofs.Conditions.{choose}
 use Rattle.terms.specs.declared.Answer.the-variants.{Done}
+use Rattle.settings.specs.Table.{placeCount}
 use Rattle.turns.specs.Turns.{Turn}
 use Rattle.turns.proofs.Turns.{either as behind}
 use Rattle.panels.specs.Records.{startW, zeroPanel, pastEnd}
@@ -19,6 +20,7 @@ use Rattle.panels.specs.declared.WRecord.{WRecord}
 use Rattle.panels.specs.declared.DisplayBox.{DisplayBox}
 use Rattle.configure.specs.declared.Configured.{Configured}
 use Rattle.vmc.specs.Orders as words
+use Rattle.vmc.proofs.Flip.{assigned-length}
 use Rattle.vmc_asks.specs.declared.Order as wordOrder
 use Rattle.vmc_asks.specs.declared.Order.the-variants.{Set, Shift, Reset, Get}
 use Rattle.rs232c_asks.specs.Asks as serialAsks
@@ -43,7 +45,7 @@ use Rattle.steps.proofs.Validity.{places-kept}
 use Rattle.steps.proofs.Alone.{eight-places}
 
 pub record Shaped (w : WRecord) : Type 0 where
-  pub settings-21 : length (w .settings) ≡ 21
+  pub settings-19 : length (w .settings) ≡ placeCount
   pub shifts-2 : length (w .shifts) ≡ 2
   pub on-10 : length (w .inputs .on) ≡ 10
   pub gains-3 : length (w .balance .gains) ≡ 3
@@ -53,9 +55,9 @@ pub record Shaped (w : WRecord) : Type 0 where
 
 words-keep : (o : wordOrder.Order) (w : WRecord) → Shaped w → Shaped (words.carried o w)
 unfolding words.carried
-words-keep (Set k v) w s = record { settings-21 = length-set (w .settings) k v ∙ s .settings-21; shifts-2 = s .shifts-2; on-10 = s .on-10; gains-3 = s .gains-3; biases-3 = s .biases-3 }
-words-keep (Shift axis z) w s = record { settings-21 = s .settings-21; shifts-2 = length-set (w .shifts) axis z ∙ s .shifts-2; on-10 = s .on-10; gains-3 = s .gains-3; biases-3 = s .biases-3 }
-words-keep Reset w s = record { settings-21 = s .settings-21; shifts-2 = refl; on-10 = s .on-10; gains-3 = s .gains-3; biases-3 = s .biases-3 }
+words-keep (Set k v) w s = record { settings-19 = assigned-length k v (w .settings) ∙ s .settings-19; shifts-2 = s .shifts-2; on-10 = s .on-10; gains-3 = s .gains-3; biases-3 = s .biases-3 }
+words-keep (Shift axis z) w s = record { settings-19 = s .settings-19; shifts-2 = length-set (w .shifts) axis z ∙ s .shifts-2; on-10 = s .on-10; gains-3 = s .gains-3; biases-3 = s .biases-3 }
+words-keep Reset w s = record { settings-19 = s .settings-19; shifts-2 = refl; on-10 = s .on-10; gains-3 = s .gains-3; biases-3 = s .biases-3 }
 words-keep (Get k) w s = s
 
 on-keeps : (byte : ℕ) (on : List ℕ) → length on ≡ 10 → length (serialInputs.onAfter byte on) ≡ 10
@@ -74,10 +76,10 @@ puts-length f (s ∷ ss) (x ∷ l) = ap suc (puts-length f ss l)
 
 serial-keep : (o : serialOrder.Order) (vs : List ℕ) (w : WRecord) → Shaped w → Shaped (serialOrders.carried o vs w)
 unfolding serialOrders.carried serialLevels.balancedBy
-serial-keep (Config marks byte) vs w s = record { settings-21 = s .settings-21; shifts-2 = s .shifts-2; on-10 = s .on-10; gains-3 = s .gains-3; biases-3 = s .biases-3 }
-serial-keep (Select byte) vs w s = record { settings-21 = s .settings-21; shifts-2 = s .shifts-2; on-10 = on-keeps byte (w .inputs .on) (s .on-10); gains-3 = s .gains-3; biases-3 = s .biases-3 }
+serial-keep (Config marks byte) vs w s = record { settings-19 = s .settings-19; shifts-2 = s .shifts-2; on-10 = s .on-10; gains-3 = s .gains-3; biases-3 = s .biases-3 }
+serial-keep (Select byte) vs w s = record { settings-19 = s .settings-19; shifts-2 = s .shifts-2; on-10 = on-keeps byte (w .inputs .on) (s .on-10); gains-3 = s .gains-3; biases-3 = s .biases-3 }
 serial-keep (Levels mask) vs w s = record {
-  settings-21 = s .settings-21;
+  settings-19 = s .settings-19;
   shifts-2 = s .shifts-2;
   on-10 = s .on-10;
   gains-3 = puts-length serialLevels.gainOf (take 3 (serialLevels.decode 6 mask vs)) (w .balance .gains) ∙ s .gains-3;
@@ -114,10 +116,10 @@ run-shaped [] b i s = s
 run-shaped (m ∷ ms) b i s = run-shaped ms (step b m .box) i (either (λ (p : Panel). Shaped (p .w)) b m i s (turn-shaped m (panelAt i b) s))
 
 start-shaped : Shaped startW
-start-shaped = record { settings-21 = refl; shifts-2 = refl; on-10 = refl; gains-3 = refl; biases-3 = refl }
+start-shaped = record { settings-19 = refl; shifts-2 = refl; on-10 = refl; gains-3 = refl; biases-3 = refl }
 
 zero-shaped : Shaped (zeroPanel .w)
-zero-shaped = record { settings-21 = refl; shifts-2 = refl; on-10 = refl; gains-3 = refl; biases-3 = refl }
+zero-shaped = record { settings-19 = refl; shifts-2 = refl; on-10 = refl; gains-3 = refl; biases-3 = refl }
 
 asked-shaped : (c : List ℕ) (i : ℕ) → Shaped (askedAt c i .w)
 unfolding askedAt

@@ -4,14 +4,15 @@ use mathlib.Core.Path.{_≡_, refl}
 use mathlib.Core.Bool.{Bool, true, false}
 use mathlib.Core.List.{List, [], _∷_, _++_, map}
 use lib.IntN.{pos, negsuc}
-use lib.ListN.{replicate}
+use lib.ListN.{getD, set, replicate}
 use Rattle.laws.specs.Bytes.{ascii}
 use Rattle.laws.specs.Lists.{every}
 use Rattle.decimals.specs.Decimals.{isDigit, decimal, leadsZero, isNumeral, upTo, inDigits, numeral}
 use Rattle.panels.specs.Records.{startW}
 use Rattle.panels.specs.declared.WRecord.{WRecord}
+use Rattle.settings.specs.Table.{flipPlace}
 use Rattle.setting_words.specs.Names.{namedBy, ledBy, chosenBy}
-use Rattle.vmc.specs.Orders.{carried, saysOf}
+use Rattle.vmc.specs.Orders.{withSettings, flippedTo, flipSays, assigned, valueAt, carried, saysOf}
 use Rattle.trimming.specs.Trimming.{unterminated, unspaced, trimmed}
 use Rattle.vmc_asks.specs.Asks.{shiftOrder, valueOrder, readSet, readGet, readWords, readData}
 use Rattle.vmc_tells.specs.Texts.{valueWords, shiftWords, setWords, moveWords, textOf}
@@ -38,6 +39,38 @@ bench-volume = refl
 texts : map textOf (Value 2 40 ∷ Value 3 2 ∷ Value 14 0 ∷ Offset 21 (pos 5) ∷ Offset 21 (pos 0) ∷ []) ≡ ascii "VOLUME 40" ∷ ascii "MODE2" ∷ ascii "CAMERA FOCUS OFF" ∷ ascii "SHIFTH +5" ∷ ascii "SHIFTH 0" ∷ []
 unfolding textOf setWords valueWords moveWords shiftWords inDigits numeral
 texts = refl
+
+-- Document 02, §4: the flip after ON and OFF for each word, from none, H, V and HV
+flipped : ℕ → WRecord
+flipped flip = withSettings startW (set (startW .settings) flipPlace flip)
+
+flipAfter : List ℕ → ℕ → ℕ
+flipAfter d flip = getD (after (readData d) (flipped flip) .settings) flipPlace 0
+
+fromEach : List ℕ → List ℕ
+fromEach d = map (flipAfter d) (0 ∷ 1 ∷ 2 ∷ 3 ∷ [])
+
+flips-after : map fromEach (ascii "STATset FLIPH ON" ∷ ascii "STATset FLIPH OFF" ∷ ascii "STATset FLIPV ON" ∷ ascii "STATset FLIPV OFF" ∷ ascii "STATset FLIPHV ON" ∷ ascii "STATset FLIPHV OFF" ∷ []) ≡
+    (1 ∷ 1 ∷ 1 ∷ 1 ∷ []) ∷
+    (0 ∷ 0 ∷ 2 ∷ 3 ∷ []) ∷
+    (2 ∷ 2 ∷ 2 ∷ 2 ∷ []) ∷
+    (0 ∷ 1 ∷ 0 ∷ 3 ∷ []) ∷
+    (3 ∷ 3 ∷ 3 ∷ 3 ∷ []) ∷
+    (0 ∷ 1 ∷ 2 ∷ 0 ∷ []) ∷ []
+unfolding after flipped flipAfter fromEach readData readWords trimmed unspaced unterminated readSet valueOrder ledBy chosenBy carried
+flips-after = refl
+
+-- and what the three words say under each
+flipTold : ℕ → List (List ℕ)
+flipTold flip = map (λ (name : List ℕ). reply (readData (ascii "STATget " ++ name)) (flipped flip)) (ascii "FLIPH" ∷ ascii "FLIPV" ∷ ascii "FLIPHV" ∷ [])
+
+flips-told : map flipTold (0 ∷ 1 ∷ 2 ∷ 3 ∷ []) ≡
+    (ascii "FLIPH OFF" ∷ ascii "FLIPV OFF" ∷ ascii "FLIPHV OFF" ∷ []) ∷
+    (ascii "FLIPH ON" ∷ ascii "FLIPV OFF" ∷ ascii "FLIPHV OFF" ∷ []) ∷
+    (ascii "FLIPH OFF" ∷ ascii "FLIPV ON" ∷ ascii "FLIPHV OFF" ∷ []) ∷
+    (ascii "FLIPH OFF" ∷ ascii "FLIPV OFF" ∷ ascii "FLIPHV ON" ∷ []) ∷ []
+unfolding reply flipped flipTold readData readWords trimmed unspaced unterminated readGet namedBy saysOf textOf setWords valueWords
+flips-told = refl
 
 -- what is understood: "VOLUME 100 is set", "SHIFTH -30 is set", and one of each kind
 taken : List (List ℕ)

@@ -2,6 +2,7 @@ pub mod AskedBack
 pub mod ReadBack
 pub mod Determined
 mod Examples
+pub mod Flip
 pub mod Validity
 pub mod Only
 pub mod Plain

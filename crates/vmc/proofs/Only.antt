@@ -21,7 +21,7 @@ use Rattle.decimals.specs.declared.Number.{Number}
 use Rattle.decimals.specs.declared.Number.the-variants.{Is, Not}
 use Rattle.decimals.proofs.Decimals.{decimal-fits, in-digits-decimal}
 use Rattle.decimals.proofs.Numerals.{numeral-digits, numeral-long}
-use Rattle.settings.specs.Table.{mostShift, nameCount, settingCount, mosts}
+use Rattle.settings.specs.Table.{mostShift, nameCount, settingCount, tops}
 use Rattle.panels.specs.Valid.{okShift}
 use Rattle.setting_texts.specs.Names.{nameOf, leadOf, wordsOf, wordOf}
 use Rattle.setting_words.specs.Names.{namedBy, ledBy, chosenBy}
@@ -42,7 +42,7 @@ use Rattle.vmc.proofs.ReadBack.{Phrase, read-back, set-back, move-back,
 
 -- the words behind STATset, and what they order
 pub data Spoken : List ℕ → Order → Type 0 where
-  sets : (k v : ℕ) → k < settingCount → v ≤ getD mosts k 0 → Spoken (setWords k v) (Set k v)
+  sets : (k v : ℕ) → k < settingCount → v ≤ getD tops k 0 → Spoken (setWords k v) (Set k v)
   moves : (axis : ℕ) (z : ℤ) → axis < 2 → okShift z ≡ true → Spoken (moveWords (settingCount + axis) z) (Shift axis z)
   plain : (axis n : ℕ) → axis < 2 → n ≤ mostShift → Spoken (leadOf (settingCount + axis) ++ numeral n) (Shift axis (pos n))
   resets : Spoken (ascii "RESET") Reset
@@ -122,9 +122,9 @@ level-says t = go (isNumeral t && leb (decimal t) 100) refl
     go false e = tt
 
 hundred : ℕ → Bool
-hundred k = eqb (getD mosts k 0) 100
+hundred k = eqb (getD tops k 0) 100
 
-level-bound : (k : ℕ) → k < 3 → getD mosts k 0 ≡ 100
+level-bound : (k : ℕ) → k < 3 → getD tops k 0 ≡ 100
 unfolding hundred
 level-bound k h = eqb→eq _ _ (below 3 hundred tt k h)
 
@@ -140,11 +140,11 @@ level-order k t h Not r = tt
 -- ---- choices: the word that was found
 
 bounded : ℕ → Bool
-bounded k = ltb k 3 || eqb (getD mosts k 0 + 1) (length (wordsOf k))
+bounded k = ltb k 3 || eqb (getD tops k 0 + 1) (length (wordsOf k))
 
-word-bound : (k : ℕ) → k < settingCount → 3 ≤ k → getD mosts k 0 + 1 ≡ length (wordsOf k)
+word-bound : (k : ℕ) → k < settingCount → 3 ≤ k → getD tops k 0 + 1 ≡ length (wordsOf k)
 unfolding bounded
-word-bound k h l = eqb→eq _ _ (subst (λ (b : Bool). T (b || eqb (getD mosts k 0 + 1) (length (wordsOf k)))) (le-ltb k 3 l) (below settingCount bounded tt k h))
+word-bound k h l = eqb→eq _ _ (subst (λ (b : Bool). T (b || eqb (getD tops k 0 + 1) (length (wordsOf k)))) (le-ltb k 3 l) (below settingCount bounded tt k h))
 
 choice-order : (k : ℕ) (t : List ℕ) → k < settingCount → 3 ≤ k → (x : Found) → Right (λ (v : ℕ). same (wordOf k v) t) (length (wordsOf k)) x → Says (Spoken (leadOf k ++ t)) (choiceOrder k x)
 unfolding setWords valueWords

@@ -15,7 +15,7 @@ use Rattle.laws.proofs.Table.{below, sure, and-left, and-right}
 use Rattle.decimals.specs.Decimals.{isDigit, decimal, leadsZero, isNumeral, upTo, inDigits, numeral}
 use Rattle.panels.specs.Valid.{okShift}
 use Rattle.laws.proofs.Conditions.{and-first}
-use Rattle.settings.specs.Table.{mostShift, nameCount, settingCount, mosts}
+use Rattle.settings.specs.Table.{mostShift, nameCount, settingCount, tops}
 use Rattle.setting_texts.specs.Names.{nameOf, leadOf}
 use Rattle.setting_words.specs.Names.{namedBy, ledBy, chosenBy}
 use Rattle.trimming.proofs.Trimmed.{endsBare, bare-trimmed}
@@ -65,7 +65,7 @@ setsBack : ℕ → ℕ → Bool
 setsBack k v = isSet k v (readWords (ascii "STATset " ++ setWords k v)) && endsBare (ascii "STATset " ++ setWords k v)
 
 allSetBack : ℕ → Bool
-allSetBack k = everyBelow (getD mosts k 0 + 1) (setsBack k)
+allSetBack k = everyBelow (getD tops k 0 + 1) (setsBack k)
 
 is-set : (k v : ℕ) (o : Words) → T (isSet k v o) → o ≡ Understood (Set k v)
 unfolding isSet
@@ -76,9 +76,9 @@ is-set k v (Understood (Get j)) t = absurd t
 is-set k v NotUnderstood t = absurd t
 
 -- the words that set a value are the order to set it
-pub set-back : (k v : ℕ) → k < settingCount → v ≤ getD mosts k 0 → Phrase (ascii "STATset " ++ setWords k v) (Set k v)
+pub set-back : (k v : ℕ) → k < settingCount → v ≤ getD tops k 0 → Phrase (ascii "STATset " ++ setWords k v) (Set k v)
 unfolding isSet setsBack allSetBack readWords endsBare readSet valueOrder upTo isNumeral leadsZero isDigit decimal inDigits numeral ledBy chosenBy setWords valueWords
-set-back k v h l = both _ (Set k v) (isSet k v) (is-set k v) (below (getD mosts k 0 + 1) (setsBack k) (below settingCount allSetBack tt k h) v (omega arith))
+set-back k v h l = both _ (Set k v) (isSet k v) (is-set k v) (below (getD tops k 0 + 1) (setsBack k) (below settingCount allSetBack tt k h) v (omega arith))
 
 -- a shift, as its sign and its size less one below 0
 isShift : ℕ → ℤ → Words → Bool

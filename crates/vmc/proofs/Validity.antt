@@ -6,8 +6,8 @@ use mathlib.Core.List.{List}
 use borrow.Author.Tests.{le-leb}
 use lib.IntN.{pos}
 use lib.ListN.{getD}
-use Rattle.laws.proofs.Lists.{within-set, bound-at, every-set}
-use Rattle.settings.specs.Table.{mostShift, nameCount, settingCount, mosts}
+use Rattle.laws.proofs.Lists.{every-set}
+use Rattle.settings.specs.Table.{mostShift, nameCount, settingCount, tops}
 use Rattle.panels.specs.Valid.{okShift, okW}
 use Rattle.panels.specs.declared.WRecord.{WRecord}
 use Rattle.panels.proofs.Ranges.{InRange, parts, whole}
@@ -17,11 +17,12 @@ use Rattle.vmc_asks.specs.Asks.{readData}
 use Rattle.vmc_asks.specs.declared.Order.{Order}
 use Rattle.vmc_asks.specs.declared.Order.the-variants.{Set, Shift, Reset, Get}
 use Rattle.vmc_asks.specs.declared.Words.the-variants.{Understood}
+use Rattle.vmc.proofs.Flip.{assigned-within}
 use Rattle.vmc.proofs.Only.{sets, moves, plain, resets, Asks, stat-set, stat-get, only}
 
 -- the numbers of an order, each in its range
 abbrev pub Fits : Order → Type 0
-Fits (Set k v) = (k < settingCount) × (v ≤ getD mosts k 0)
+Fits (Set k v) = (k < settingCount) × (v ≤ getD tops k 0)
 Fits (Shift axis z) = (axis < 2) × (okShift z ≡ true)
 Fits Reset = Unit {0}
 Fits (Get k) = k < nameCount
@@ -43,7 +44,7 @@ understood-fits d o e = asks-fits (trimmed d) o (only d o e)
 
 pub carried-fits : (o : Order) (w : WRecord) → Fits o → InRange w → InRange (carried o w)
 unfolding carried okShift
-carried-fits (Set k v) w f r = record { settings-ok = within-set (w .settings) mosts k v (r .settings-ok) (bound-at mosts k v (f .1)); shifts-ok = r .shifts-ok; inputs-ok = r .inputs-ok; balance-ok = r .balance-ok }
+carried-fits (Set k v) w f r = record { settings-ok = assigned-within k v (w .settings) (f .0) (f .1) (r .settings-ok); shifts-ok = r .shifts-ok; inputs-ok = r .inputs-ok; balance-ok = r .balance-ok }
 carried-fits (Shift axis z) w f r = record { settings-ok = r .settings-ok; shifts-ok = every-set okShift (w .shifts) axis z (r .shifts-ok) (f .1); inputs-ok = r .inputs-ok; balance-ok = r .balance-ok }
 carried-fits Reset w f r = record { settings-ok = r .settings-ok; shifts-ok = refl; inputs-ok = r .inputs-ok; balance-ok = r .balance-ok }
 carried-fits (Get k) w f r = r

@@ -1,23 +1,80 @@
-// VMC: an order carried out on a W panel's record, and what is said of it (document 01, "SDCP and VMC").
+// VMC: an order carried out on a W panel's record, and what is said of it (document 01, "SDCP and VMC"; document 02, §4).
 use panels::WRecord;
+use settings::FLIP;
 use settings::SETTING_COUNT;
 ghost use mathlib.Core.Path.{_≡_};
+ghost use Prim.Native.Nat.{_<_, _≤_};
 ghost use lib.ListN.{set};
-ghost use Rattle.vmc.specs.Orders.{withSettings, withShifts, carried, saysOf};
+ghost use Rattle.vmc.specs.Orders.{withSettings, withShifts, flipOf, flippedTo, flipSays, assigned, valueAt, carried, saysOf};
 use vmc_asks::Order;
 use vmc_tells::Says;
 
-// A setting of the table at a value.
-fn assign(w: WRecord, k: usize, v: u8) -> WRecord
-    ensures { λ r. ⌜ r ≡ withSettings w (set (w .settings) k v) ⌝ }
+// FLIPH's flip is 1, FLIPV's 2 and FLIPHV's 3.
+fn flip_of(k: usize) -> u8
+    requires { ⌜ (18 ≤ k) × (k < 21) ⌝ }
+    ensures { λ r. ⌜ r ≡ flipOf k ⌝ }
 {
-    if SETTING_COUNT <= k {
-        return w;
+    (k - FLIP + 1) as u8
+}
+
+// "ON for a flip word makes it the panel's flip; OFF for it makes the flip none if that word's flip was in force."
+fn flipped_to(flip: u8, v: u8, in_force: u8) -> u8
+    ensures { λ r. ⌜ r ≡ flippedTo flip v in_force ⌝ }
+{
+    if v != 0 {
+        return flip;
     }
-    let mut settings = w.settings;
-    settings[k] = v;
+    if in_force == flip {
+        return 0;
+    }
+    in_force
+}
+
+// "STATget of a flip word says ON for the one in force."
+fn flip_says(flip: u8, in_force: u8) -> u8
+    ensures { λ r. ⌜ r ≡ flipSays flip in_force ⌝ }
+{
+    if in_force == flip {
+        return 1;
+    }
+    0
+}
+
+// The settings with name k at a value.
+fn assign(settings: [u8; 19], k: usize, v: u8) -> [u8; 19]
+    ensures { λ r. ⌜ r ≡ assigned k v settings ⌝ }
+{
+    let mut s = settings;
+    if k < FLIP {
+        s[k] = v;
+        return s;
+    }
+    if k < SETTING_COUNT {
+        s[FLIP] = flipped_to(flip_of(k), v, settings[FLIP]);
+        return s;
+    }
+    s
+}
+
+// The value behind name k.
+fn value_at(settings: [u8; 19], k: usize) -> u8
+    requires { ⌜ k < 21 ⌝ }
+    ensures { λ r. ⌜ r ≡ valueAt k settings ⌝ }
+{
+    if k < FLIP {
+        return settings[k];
+    }
+    flip_says(flip_of(k), settings[FLIP])
+}
+
+// A setting at a value.
+fn set_value(w: WRecord, k: usize, v: u8) -> WRecord
+    ensures { λ r. ⌜ r ≡ withSettings w (assigned k v (w .settings)) ⌝ }
+{
+    let settings = w.settings;
+    let next = assign(settings, k, v);
     let mut x = w;
-    x.settings = settings;
+    x.settings = next;
     x
 }
 
@@ -40,7 +97,7 @@ pub fn obey(w: WRecord, o: Order) -> WRecord
     ensures { λ r. ⌜ r ≡ carried o w ⌝ }
 {
     match o {
-        Order::Set(k, v) => assign(w, k, v),
+        Order::Set(k, v) => set_value(w, k, v),
         Order::Shift(axis, z) => shift(w, axis, z),
         Order::Reset => {
             let mut x = w;
@@ -57,7 +114,7 @@ fn present(w: WRecord, k: usize) -> Says
 {
     if k < SETTING_COUNT {
         let settings = w.settings;
-        return Says::Value(k, settings[k]);
+        return Says::Value(k, value_at(settings, k));
     }
     let axis = k - SETTING_COUNT;
     if 2 <= axis {

@@ -19,7 +19,7 @@ ghost use Rattle.settings.specs.Table.{mostShift};
 ghost use Rattle.setting_words.specs.Names.{chosenBy};
 ghost use Rattle.vmc_asks.specs.Asks.{levelOf, signed, levelOrder, choiceOrder, shiftBy, shiftOrder, valueOrder, readSet, readGet, readWords, readData};
 
-// What the words order or ask. The number is the name's place: 0 to 20 are the table's settings, 21 and 22 SHIFTH and SHIFTV.
+// What the words order or ask. The number is the name's: 0 to 20 are the settings, 21 and 22 SHIFTH and SHIFTV.
 pub enum Order {
     // STATset with a level or a choice: the setting and its value
     Set(usize, u8),

@@ -13,8 +13,8 @@ use Rattle.vmc.proofs.obey.Tie as tie
 enum-known-o : tie.Need-enum-known-o
 enum-known-o c = search needs
 
-assign-requires : tie.Need-assign-requires
-assign-requires c κs = search needs
+set-value-requires : tie.Need-set-value-requires
+set-value-requires c κs = search needs
 
 enum-known-o-2 : tie.Need-enum-known-o-2
 enum-known-o-2 c = search needs
@@ -30,7 +30,7 @@ enum-told-2 c = search needs
 
 returns : tie.Need-returns
 unfolding carried
-returns c = rw (c .before .before .o .given .1) (c .assign .ensures)
+returns c = rw (c .before .before .o .given .1) (c .set-value .ensures)
 
 returns-2 : tie.Need-returns-2
 unfolding carried
@@ -53,7 +53,7 @@ obey-spec =
     tie.close
     (tie.spec
     enum-known-o
-    assign-requires
+    set-value-requires
     enum-known-o-2
     shift-requires
     enum-told

@@ -3,7 +3,8 @@
 //! - `generate SEED ORDERS` writes a random script of that many orders; the same seed gives the
 //!   same script, always and everywhere.
 //! - `generate sweep` writes the fixed script that walks every small range of document 01, streams
-//!   in pieces (document 02, §1), and every ending behind every kind of words (§2).
+//!   in pieces (document 02, §1), every ending behind every kind of words (§2), and every flip word
+//!   from every flip (§4).
 //!
 //! The generator knows what the documents accept, so that most of its messages get past the first
 //! checks; it does not know, and does not use, what the answers are.
@@ -229,6 +230,30 @@ mod tests {
         let ended = told.iter().filter(|(data, _)| !ending_of(data).is_empty());
         let share = ended.count() * 1000 / told.len();
         assert!((220..300).contains(&share), "{share} of 1000 packets");
+    }
+
+    /// The words of a data area that is a STATset as it stands.
+    fn set_words(data: &[u8]) -> Option<&str> {
+        let text = std::str::from_utf8(data).ok()?;
+        text.trim_end_matches(['\0', ' ']).strip_prefix("STATset ")
+    }
+
+    #[test]
+    fn a_random_script_has_flips() {
+        let answered = answered(&random::script(3, 20_000));
+        let told: Vec<(Vec<u8>, &str)> = answered.iter().filter_map(data_and_number).collect();
+        let sets = told.iter().filter(|(_, number)| *number == "0");
+        let sets: Vec<&str> = sets.filter_map(|(data, _)| set_words(data)).collect();
+        let flips = sets.iter().filter(|words| words.starts_with("FLIP"));
+        let share = flips.count() * 1000 / sets.len();
+        assert!((150..300).contains(&share), "{share} of 1000 sets");
+        for word in words::FLIPS {
+            for state in ["ON", "OFF"] {
+                let wanted = format!("{word} {state}");
+                let count = sets.iter().filter(|words| **words == wanted).count();
+                assert!(count >= 15, "{wanted}: {count}");
+            }
+        }
     }
 
     #[test]

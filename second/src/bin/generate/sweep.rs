@@ -8,7 +8,8 @@ use crate::make::{
 use crate::unread;
 use crate::wire;
 use crate::words::{
-    good_texts, names, BAD_ENDINGS, CHOICES, GOOD_ENDINGS, LEVELS, SHIFTS, STRANGERS, SWITCHES,
+    good_texts, names, BAD_ENDINGS, CHOICES, FLIPS, GOOD_ENDINGS, LEVELS, SHIFTS, STRANGERS,
+    SWITCHES,
 };
 
 /// The links of [`HOUSE`].
@@ -27,7 +28,7 @@ type Part = (&'static str, fn(&mut Script));
 
 pub fn script() -> Vec<u8> {
     let mut script = Script::of_at_most(MOST_ORDERS);
-    let parts: [Part; 27] = [
+    let parts: [Part; 28] = [
         ("before any box", before_any_box),
         ("boxes, good and bad", boxes),
         ("links and areas", links_and_areas),
@@ -41,6 +42,7 @@ pub fn script() -> Vec<u8> {
         ("SDCP: the lengths", packet_lengths),
         ("SDCP: the ways of addressing", addressing),
         ("VMC: every setting with every value", settings),
+        ("VMC: one flip, three words", flips),
         ("VMC: numbers that are none", numbers),
         ("VMC: near misses of every word", near_misses),
         ("VMC: what stands behind the words", endings),
@@ -512,7 +514,7 @@ fn settings(script: &mut Script) {
             ask(script, name);
         }
     }
-    for switch in SWITCHES {
+    for switch in SWITCHES.into_iter().chain(FLIPS) {
         for state in [
             "ON", "OFF", "ON", "on", "O", "OF", "OFFF", "1", "", "TOGGLE",
         ] {
@@ -543,6 +545,69 @@ fn settings(script: &mut Script) {
         script.udp(&packet(255, 255, text.as_bytes()));
         script.udp(&packet(2, 255, text.as_bytes()));
         script.show_all(3);
+    }
+}
+
+/// Every flip word ON and OFF, from every flip: by TCP, by UDP, and off the wire.
+fn flips(script: &mut Script) {
+    let words = FLIPS.map(|flip| ["ON", "OFF"].map(|state| format!("STATset {flip} {state}")));
+    let words = words.as_flattened();
+    for before in [
+        "",
+        "STATset FLIPH ON",
+        "STATset FLIPV ON",
+        "STATset FLIPHV ON",
+    ] {
+        for text in words {
+            let data = text.as_bytes();
+            script.line(HOUSE);
+            script.udp(&packet(255, 255, before.as_bytes()));
+            script.tcp(W, 512, &packet(0, 0, data));
+            script.tcp(W, 512, &packet(1, 3, data));
+            script.piece(3, 512, &packet(0, 0, data));
+            flips_asked(script);
+            script.udp(&packet(255, 255, before.as_bytes()));
+            script.udp(&packet(1, 255, data));
+            flips_asked(script);
+            script.udp(&packet(255, 255, data));
+            flips_asked(script);
+        }
+    }
+    // Any two behind each other, and any three, and what has no part in it between them.
+    for first in words {
+        for second in words {
+            script.line(HOUSE);
+            script.udp(&packet(1, 255, first.as_bytes()));
+            script.tcp(W, 512, &packet(0, 0, b"STATset RESET"));
+            script.tcp(W, 512, &packet(0, 0, b"STATset HVDELAY ON"));
+            script.udp(&packet(1, 255, second.as_bytes()));
+            script.show_all(3);
+            for third in words {
+                script.tcp(W, 512, &packet(0, 0, third.as_bytes()));
+                script.show(W);
+            }
+        }
+    }
+    // A group with a flip of its own for each panel, told the same.
+    for text in words {
+        script.line(HOUSE);
+        for (link, flip) in FLIPS.iter().enumerate() {
+            let set = format!("STATset {flip} ON");
+            script.tcp(link as u64 + 1, 512, &packet(0, 0, set.as_bytes()));
+        }
+        script.udp(&packet(255, 255, text.as_bytes()));
+        flips_asked(script);
+    }
+}
+
+/// Each flip word of each W panel, and its record.
+fn flips_asked(script: &mut Script) {
+    for link in 1..=3 {
+        for flip in FLIPS {
+            let get = format!("STATget {flip}");
+            script.tcp(link, 512, &packet(0, 0, get.as_bytes()));
+        }
+        script.show(link);
     }
 }
 

@@ -14,7 +14,7 @@ pub const CHOICES: [&str; 7] = [
     "RGB RANGE LIMITED",
 ];
 pub const CHOICE_NAMES: [&str; 3] = ["MODE", "NTSC", "RGB RANGE"];
-pub const SWITCHES: [&str; 15] = [
+pub const SWITCHES: [&str; 12] = [
     "REMOTE",
     "POWERSAVING",
     "KEYINHIBIT",
@@ -27,10 +27,8 @@ pub const SWITCHES: [&str; 15] = [
     "LED",
     "SCREENSAVER",
     "SILENTMODE",
-    "FLIPH",
-    "FLIPV",
-    "FLIPHV",
 ];
+pub const FLIPS: [&str; 3] = ["FLIPH", "FLIPV", "FLIPHV"];
 
 /// What consoles put behind their strings, and §2 takes off again.
 pub const GOOD_ENDINGS: [&[u8]; 5] = [b" ", b"  ", b"\0", b" \0", b"  \0"];
@@ -84,7 +82,7 @@ pub const STRANGERS: [&str; 40] = [
 
 /// Every name that STATget takes.
 pub fn names() -> Vec<&'static str> {
-    [&LEVELS[..], &SHIFTS, &CHOICE_NAMES, &SWITCHES].concat()
+    [&LEVELS[..], &SHIFTS, &CHOICE_NAMES, &SWITCHES, &FLIPS].concat()
 }
 
 /// One good data area for each setting, and one for each question.
@@ -104,6 +102,10 @@ pub fn good_texts() -> Vec<String> {
     for (place, switch) in SWITCHES.iter().enumerate() {
         let state = if place % 2 == 0 { "OFF" } else { "ON" };
         texts.push(format!("STATset {switch} {state}"));
+    }
+    for flip in FLIPS {
+        texts.push(format!("STATset {flip} ON"));
+        texts.push(format!("STATset {flip} OFF"));
     }
     for name in names() {
         texts.push(format!("STATget {name}"));
@@ -182,7 +184,7 @@ pub fn text(rng: &mut Rng) -> Vec<u8> {
 
 /// A data area that is good, or nearly, as it ends by itself.
 fn bare_text(rng: &mut Rng) -> Vec<u8> {
-    let good = match rng.below(20) {
+    let good = match rng.below(24) {
         0..=3 => format!("STATset {} {}", rng.pick(&LEVELS), level(rng)),
         4..=6 => format!("STATset {} {}", rng.pick(&SHIFTS), shift(rng)),
         7..=8 => format!("STATset {}", rng.pick(&CHOICES)),
@@ -192,7 +194,10 @@ fn bare_text(rng: &mut Rng) -> Vec<u8> {
             rng.pick(&SWITCHES),
             rng.pick(&["ON", "OFF"])
         ),
-        14..=18 => format!("STATget {}", rng.pick(&names())),
+        // Of the sets about one in six is of the flip: what one does depends on the one before it.
+        14..=16 => format!("STATset {} {}", rng.pick(&FLIPS), rng.pick(&["ON", "OFF"])),
+        17..=21 => format!("STATget {}", rng.pick(&names())),
+        22 => format!("STATget {}", rng.pick(&FLIPS)),
         _ => rng.pick(&STRANGERS).to_string(),
     };
     let good = good.into_bytes();
