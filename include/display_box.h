@@ -47,8 +47,9 @@
  * Stack. A call needs at most BOX_STACK_LENGTH bytes of it, whatever is handed
  * in and however long it is.
  *
- * Answers (document 01, "Answer numbers"): enum box_answer. Checks run in the
- * order of the numbers, and the first that applies is given.
+ * Answers (document 01, "Answer numbers", and document 02): enum box_answer.
+ * Checks run in the order of the numbers, but for 8, which comes between 5 and 6;
+ * the first that applies is given.
  */
 #ifndef DISPLAY_BOX_H
 #define DISPLAY_BOX_H
@@ -72,6 +73,7 @@ enum box_answer {
     BOX_ENVELOPE_WRONG = 5,    /* RS-232C: byte count or checksum; SDCP: request, item or data length; advert: power, error or a text */
     BOX_NOT_UNDERSTOOD = 6,    /* the contents are not understood */
     BOX_BAD_CONFIGURATION = 7, /* box_configure alone: the configuration breaks a rule */
+    BOX_STATUS_BY_BROADCAST = 8, /* BOX_WAY_UDP alone: STATget, which no panel answers by UDP; the console that sent it waits for ever */
 };
 
 /* The ways in. Any other number is no way in, and is answered BOX_NO_SUCH_PANEL, also where the area is too small for a reply. */
@@ -256,9 +258,10 @@ BOX_LENGTH_IS(box_received, 16);
 uint8_t box_configure(struct display_box *box, const uint8_t *configuration, size_t configuration_length);
 
 /*
- * A message. Gives BOX_DONE to BOX_NOT_UNDERSTOOD, and the reply's length: the
- * first so many bytes of area are to go back to the console, and 0 is no reply.
- * A message that is not BOX_DONE can have a reply too.
+ * A message. Gives BOX_DONE to BOX_NOT_UNDERSTOOD, or by UDP also
+ * BOX_STATUS_BY_BROADCAST, and the reply's length: the first so many bytes of
+ * area are to go back to the console, and 0 is no reply. A message that is not
+ * BOX_DONE can have a reply too.
  *
  * All of the area behind the reply keeps what it held; where the answer is not
  * BOX_DONE, all of the box does too. When BOX_DONE is given, what was set stands

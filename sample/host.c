@@ -69,7 +69,7 @@ static void log_line(const struct port *port, const char *form, ...)
     va_end(values);
 }
 
-/* The words of document 01, "Answer numbers". */
+/* The words of document 01, "Answer numbers", and of document 02. */
 static const char *answer_words(uint8_t answer)
 {
     switch (answer) {
@@ -81,6 +81,7 @@ static const char *answer_words(uint8_t answer)
     case BOX_ENVELOPE_WRONG: return "envelope wrong";
     case BOX_NOT_UNDERSTOOD: return "contents not understood";
     case BOX_BAD_CONFIGURATION: return "configuration breaks a rule";
+    case BOX_STATUS_BY_BROADCAST: return "a status asked for by broadcast";
     default: return "an answer that this host does not know";
     }
 }

@@ -1,4 +1,4 @@
-//! Document 01, "Answer numbers".
+//! Document 01, "Answer numbers", and those of document 02.
 //!
 //! "Checks run in the order of the numbers, and the first that applies is given; each is given
 //! only when its stated condition holds."
@@ -22,10 +22,12 @@ pub enum Answer {
     NotUnderstood,
     /// 7: "configuration breaks a rule of the first section".
     BadConfiguration,
+    /// 8: status asked by broadcast (document 02, §5).
+    StatusByBroadcast,
 }
 
 impl Answer {
-    /// The number of the table's first column.
+    /// The number of the table's first column, or that a request of document 02 gives.
     pub fn number(self) -> u8 {
         match self {
             Answer::CarriedOut => 0,
@@ -36,6 +38,7 @@ impl Answer {
             Answer::EnvelopeWrong => 5,
             Answer::NotUnderstood => 6,
             Answer::BadConfiguration => 7,
+            Answer::StatusByBroadcast => 8,
         }
     }
 }

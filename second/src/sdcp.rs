@@ -59,6 +59,10 @@ fn read(held: &mut DisplayBox, way: WayIn, bytes: &[u8]) -> Reading {
     if !envelope_is_good(bytes) {
         return Reading::refused(Answer::EnvelopeWrong);
     }
+    // Document 02, §5, "No status by broadcast": "Refusals: 8, after 5 and before 6."
+    if way == WayIn::Udp && vmc::asks_for_status(&bytes[HEADER..]) {
+        return Reading::refused(Answer::StatusByBroadcast);
+    }
     // "The data area, from byte 13 to its end, is read", without what a console put behind its words
     // (document 02, §2). The envelope was judged on the data as it was sent.
     let Some(order) = vmc::read(&bytes[HEADER..]) else {

@@ -89,6 +89,14 @@ pub fn read(data: &[u8]) -> Option<Order> {
     }
 }
 
+/// Document 02, §5: "the trimmed data is STATget alone or begins with STATget and a space".
+///
+/// Whatever follows the space: it need not be a name (docs/DECISIONS.md).
+pub fn asks_for_status(data: &[u8]) -> bool {
+    let data = trimmed(data);
+    data == b"STATget" || data.starts_with(b"STATget ")
+}
+
 /// "STATset takes: PHASE, CHROMA or VOLUME with 0 to 100 ...; SHIFTH or SHIFTV with -30 to +30
 /// ...; MODE0, MODE1, MODE2; NTSC0, NTSC75; RGB RANGE FULL or LIMITED; RESET ...; and ON or OFF
 /// after REMOTE, ..."
@@ -290,6 +298,47 @@ mod tests {
         ];
         for (data, left) in tried {
             assert_eq!(trimmed(data), left, "{data:?}");
+        }
+    }
+
+    // Status is asked by `STATget` alone, or with a space and anything behind it, after the trimming.
+    #[test]
+    fn what_asks_for_status() {
+        for data in [
+            &b"STATget"[..],
+            b"STATget ",
+            b"STATget\0",
+            b"STATget  \0",
+            b"STATget VOLUME",
+            b"STATget VOLUME \0",
+            b"STATget VOLUME\t",
+            b"STATget LOUDNESS",
+            b"STATget  VOLUME",
+            b"STATget \t",
+            b"STATget \0 ",
+            b"STATget \0\0",
+        ] {
+            assert!(asks_for_status(data), "{data:?}");
+        }
+        for data in [
+            &b""[..],
+            b" ",
+            b"STATge",
+            b"STATge ",
+            b"STATgetVOLUME",
+            b"STATgets VOLUME",
+            b"STATget\tVOLUME",
+            b"STATget\0VOLUME",
+            b"STATget\0 ",
+            b"STATget\0\0",
+            b" STATget",
+            b" STATget VOLUME",
+            b"statget VOLUME",
+            b"STATGET VOLUME",
+            b"STATset STATget VOLUME",
+            b"STATset VOLUME 40",
+        ] {
+            assert!(!asks_for_status(data), "{data:?}");
         }
     }
 

@@ -141,7 +141,8 @@ fn slip_unit_ff_without_the_group() {
 fn slip_answering_a_broadcast() {
     // `udp` checks that nothing was written, whatever the answer.
     let mut held = usual_box();
-    assert_eq!(udp(&mut held, &packet(0xFF, 0xFF, b"STATget VOLUME")), 0);
+    assert_eq!(udp(&mut held, &packet(0xFF, 0xFF, b"STATset VOLUME 9")), 0);
+    assert_eq!(udp(&mut held, &packet(0xFF, 0xFF, b"STATget VOLUME")), 8);
     assert_eq!(
         udp(&mut held, &packet(0xFF, 0xFF, b"STATset VOLUME 101")),
         6

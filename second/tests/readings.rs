@@ -148,15 +148,6 @@ fn a_box_of_count_0() {
     assert_eq!(udp(&mut held, &packet(0xFF, 0xFF, b"STATget LED")), 4);
 }
 
-// STATget by UDP is 0 without reply; an unknown name 6.
-#[test]
-fn statget_by_udp() {
-    let mut held = usual_box();
-    assert_eq!(udp(&mut held, &packet(1, 0xFF, b"STATget VOLUME")), 0);
-    assert_eq!(udp(&mut held, &packet(1, 0xFF, b"STATget LOUDNESS")), 6);
-    assert_eq!(held, usual_box());
-}
-
 // TCP by pair on another panel's link: the panel with the pair obeys, the reply goes into the
 // link's area with the request's own first eight bytes. Check 2 looks at the link's panel alone,
 // so by pair on a K panel's link is 2.
@@ -396,10 +387,10 @@ fn endings_that_are_taken_off() {
 fn endings_that_are_not_taken_off() {
     let mut held = usual_box();
     for ending in [&b"\0 "[..], b"\0\0", b" \0 ", b"\t", b" \t", b"\x01"] {
-        for text in [&b"STATset VOLUME 40"[..], b"STATget VOLUME"] {
+        for (text, by_udp) in [(&b"STATset VOLUME 40"[..], 6), (b"STATget VOLUME", 8)] {
             let data = [text, ending].concat();
             assert_eq!(words(&mut held, &data), (6, ok(0, 0, b"")), "{data:?}");
-            assert_eq!(udp(&mut held, &packet(1, 0xFF, &data)), 6);
+            assert_eq!(udp(&mut held, &packet(1, 0xFF, &data)), by_udp);
         }
     }
     // Every byte alone behind the words, and before them.
@@ -432,8 +423,6 @@ fn what_is_left_after_the_trimming() {
         b"STATset ",
         b"STATset\0",
         b"STATset \0",
-        b"STATget ",
-        b"STATget\0",
         b"STATset VOLUME ",
         b"STATset VOLUME \0",
         b"STATset LED \0",
@@ -442,6 +431,9 @@ fn what_is_left_after_the_trimming() {
     ] {
         assert_eq!(words(&mut held, bad), (6, ok(0, 0, b"")), "{bad:?}");
         assert_eq!(udp(&mut held, &packet(0xFF, 0xFF, bad)), 6);
+    }
+    for bad in [&b"STATget "[..], b"STATget\0"] {
+        assert_eq!(words(&mut held, bad), (6, ok(0, 0, b"")), "{bad:?}");
     }
     assert_eq!(words(&mut held, &[b' '; 499]), (6, ok(0, 0, b"")));
     assert_eq!(held, usual_box());
@@ -570,6 +562,88 @@ fn nothing_else_flips() {
         assert_eq!(words(&mut held, bad), (6, ok(0, 0, b"")), "{bad:?}");
     }
     assert_eq!(held, before);
+}
+
+// §5: 8 for `STATget` alone, and for `STATget` and a space, whatever follows; after the trimming.
+// "no panel changes and no reply is sent". By TCP nothing changes.
+#[test]
+fn no_status_by_broadcast() {
+    let mut held = usual_box();
+    let asked: [(&[u8], u8); 16] = [
+        (b"STATget VOLUME", 0),
+        (b"STATget CAMERA FOCUS", 0),
+        (b"STATget VOLUME ", 0),
+        (b"STATget VOLUME\0", 0),
+        (b"STATget VOLUME  \0", 0),
+        (b"STATget LOUDNESS", 6),
+        (b"STATget RESET", 6),
+        (b"STATget VOLUME 40", 6),
+        (b"STATget VOLUME\t", 6),
+        (b"STATget  VOLUME", 6),
+        (b"STATget \0 ", 6),
+        (b"STATget \xFF", 6),
+        (b"STATget", 6),
+        (b"STATget ", 6),
+        (b"STATget\0", 6),
+        (b"STATget  \0", 6),
+    ];
+    for (data, by_tcp) in asked {
+        for group in [1, 2, 0xFF] {
+            assert_eq!(udp(&mut held, &packet(group, 0xFF, data)), 8, "{data:?}");
+        }
+        assert_eq!(words(&mut held, data).0, by_tcp, "{data:?}");
+    }
+    let longest = [&b"STATget "[..], &[b'A'; 491]].concat();
+    assert_eq!(udp(&mut held, &packet(0xFF, 0xFF, &longest)), 8);
+    assert_eq!(held, usual_box());
+}
+
+// §5: what is no `STATget` and no `STATget` with a space is 6 by UDP, as before; a set is obeyed.
+#[test]
+fn what_is_no_status_by_broadcast() {
+    let mut held = usual_box();
+    for data in [
+        &b"STATgetVOLUME"[..],
+        b"STATgets VOLUME",
+        b"STATget\tVOLUME",
+        b"STATget\0VOLUME",
+        b"STATget\0 ",
+        b"STATget\0\0",
+        b"STATge",
+        b"statget VOLUME",
+        b" STATget VOLUME",
+        b" STATget",
+        b"",
+        b" ",
+        b"STATset STATget VOLUME",
+    ] {
+        assert_eq!(udp(&mut held, &packet(1, 0xFF, data)), 6, "{data:?}");
+    }
+    assert_eq!(held, usual_box());
+    assert_eq!(udp(&mut held, &packet(1, 0xFF, b"STATset VOLUME 4")), 0);
+    assert_eq!(w(&mut held, 2).volume, 4);
+}
+
+// §5: "8, after 5 and before 6". Too short is 3, nobody addressed is 4, a wrong envelope is 5 first.
+#[test]
+fn no_status_by_broadcast_comes_after_5() {
+    let mut held = usual_box();
+    let good = packet(1, 0xFF, b"STATget VOLUME");
+    assert_eq!(udp(&mut held, &good[..12]), 3);
+    for (group, unit) in [(3, 0xFF), (0, 0), (1, 1), (0xFF, 1)] {
+        let asked = packet(group, unit, b"STATget VOLUME");
+        assert_eq!(udp(&mut held, &asked), 4);
+    }
+    for (place, byte) in [(8, 1), (9, 0xB1), (10, 1), (11, 1), (12, 13), (12, 15)] {
+        let mut bytes = good.clone();
+        bytes[place] = byte;
+        assert_eq!(udp(&mut held, &bytes), 5);
+    }
+    let mut long = b"STATget VOLUME".to_vec();
+    long.resize(500, b' ');
+    assert_eq!(udp(&mut held, &packet(1, 0xFF, &long)), 5);
+    let mut none = new_box(&[(b'K', 0, 0)]);
+    assert_eq!(udp(&mut none, &packet(0xFF, 0xFF, b"STATget VOLUME")), 4);
 }
 
 // NG echoes the item as it came.

@@ -3,7 +3,7 @@
  * every way in and every number that is none, every length of message, area and
  * configuration, and the bench examples. Box, message and area stand alone in
  * memory with their exact sizes. What is expected is worked out here, from
- * document 01, and not taken from the box.
+ * documents 01 and 02, and not taken from the box.
  */
 #include "areas.h"
 #include "messages.h"
@@ -75,7 +75,17 @@ static int is_anybody_called(const struct display_box *box, uint8_t way, uint8_t
     return 0;
 }
 
-/* By TCP NG goes with 5 and OK without data with 6; by UDP nothing. */
+/* Document 02, §5: "the trimmed data is STATget alone or begins with STATget and a space"; §2 says what is trimmed */
+static int asks_status(const uint8_t *data, size_t n)
+{
+    if (n > 0 && data[n - 1] == 0x00)
+        n--;
+    while (n > 0 && data[n - 1] == ' ')
+        n--;
+    return n >= 7 && memcmp(data, "STATget", 7) == 0 && (n == 7 || data[7] == ' ');
+}
+
+/* By TCP NG goes with 5 and OK without data with 6; by UDP nothing, and a question is 8 behind 5 and before 6. */
 static struct told sdcp_told(const struct display_box *box, uint8_t way, const uint8_t *m, size_t n)
 {
     if (n < 13)
@@ -85,7 +95,7 @@ static struct told sdcp_told(const struct display_box *box, uint8_t way, const u
     size_t length = (size_t)m[11] * 256 + m[12];
     int is_whole = m[8] == 0x00 && m[9] == 0xB0 && m[10] == 0x00 && length <= 499 && length == n - 13;
     if (way == BOX_WAY_UDP)
-        return quiet(is_whole ? 6 : 5);
+        return quiet(!is_whole ? 5 : asks_status(m + 13, n - 13) ? 8 : 6);
     uint8_t reply[15] = { 0, 0, 0, 0, 0, 0, 0, 0, is_whole, m[9], m[10], 0, is_whole ? 0 : 2, 0xF0, 0x50 };
     memcpy(reply, m, 8);
     return told(is_whole ? 6 : 5, reply, is_whole ? 13 : 15);
@@ -281,6 +291,47 @@ static void addresses(void)
                 refuses(&box, &box, BOX_WAY_TCP, link, m.bytes, m.length, BOX_AREA_LENGTH);
             refuses(&box, &box, BOX_WAY_UDP, 0, m.bytes, m.length, 0);
         }
+}
+
+/* One byte more of data. */
+static struct message with_byte(struct message m, uint8_t byte)
+{
+    m.bytes[m.length++] = byte;
+    m.bytes[12]++;
+    return m;
+}
+
+/* A packet that is refused by UDP, to all, to a group and to a group that nobody has: the box that it is for, and one of garbage. */
+static void is_no_broadcast(struct message m)
+{
+    static const uint8_t groups[] = { 0xFF, 11, 99 };
+    struct display_box box = box_of("WKW"), garbage;
+    randomise(&garbage, sizeof garbage);
+    garbage.count = 9;
+    for (size_t g = 0; g < sizeof groups; g++) {
+        m.bytes[6] = groups[g];
+        refuses(&box, &box, BOX_WAY_UDP, 0, m.bytes, m.length, 0);
+        refuses(&garbage, &no_panels, BOX_WAY_UDP, 0, m.bytes, m.length, 0);
+    }
+}
+
+/* Document 02, §5: known names, others and none, with every end; what only looks like a question; and a wrong length before all of it. */
+static void questions_by_broadcast(void)
+{
+    static const char *const data[] = { "STATget VOLUME", "STATget SHIFTV", "STATget NOTHING", "STATget", "STATget  VOLUME",
+                                        "STATget VOLUME 40", "STATgetVOLUME", "STATget\tVOLUME", " STATget VOLUME",
+                                        "statget VOLUME", "STATge", "STATset VOLUME 101", "STATset" };
+    for (size_t i = 0; i < LENGTH_OF(data); i++) {
+        struct message m = sdcp_packet(0xFF, 0xFF, data[i]);
+        is_no_broadcast(m);
+        is_no_broadcast(with_byte(m, ' '));
+        is_no_broadcast(with_byte(m, 0x00));
+        is_no_broadcast(with_byte(with_byte(m, ' '), 0x00));
+        is_no_broadcast(with_byte(with_byte(m, 0x00), ' '));
+        is_no_broadcast(with_byte(with_byte(m, 0x00), 0x00));
+        m.bytes[12]++;
+        is_no_broadcast(m);
+    }
 }
 
 /* An empty area is (NULL, 0) everywhere else in this file; here it stands at the end of another. */
@@ -565,6 +616,7 @@ int main(void)
         every_area();
         udp_looks_at_neither();
         addresses();
+        questions_by_broadcast();
         empty_but_not_null();
         broken_boxes();
         configurations();

@@ -42,7 +42,7 @@ use Rattle.rs232c_tells.specs.declared.Reply.{Reply as SerialReply}
 use Rattle.rs232c_tells.specs.declared.Reply.the-variants.{Silent, Ack, Nak, State, Balances}
 use Rattle.kjw.specs.Replies as frames
 use Rattle.kjw.proofs.Notices.{reply-length}
-use Rattle.sdcp_asks.specs.Asks.{heardOf}
+use Rattle.sdcp_asks.specs.Asks.{heardOf, castOf}
 use Rattle.sdcp.specs.Replies as packets
 use Rattle.sdcp_asks.specs.declared.Heard.{Heard as PacketHeard}
 use Rattle.sdcp_asks.specs.declared.Heard.the-variants as packetIs
@@ -377,7 +377,7 @@ unfolding turn
 turn-fits (rs232c l m area) p = behind (length area) (serial.turnOf m) (p .w) (serial-turn-fits (serialAsks.heardOf m) (serialAsks.valuesOf m) (p .w))
 turn-fits (kjw l m area) p = behind (length area) (frames.turnOf m) (p .k) (frame-fits m (p .k))
 turn-fits (tcp l m area) p = behind (length area) (packets.turnOf m) (p .w) (packet-turn-fits m (heardOf m) (p .w))
-turn-fits (udp m) p = packet-turn-fits m (heardOf m) (p .w)
+turn-fits (udp m) p = packet-turn-fits m (castOf m) (p .w)
 
 back-fits : (m : Message) (reply : List ℕ) → length reply ≤ 48 → back m reply .len ≤ 48
 back-fits (rs232c l m area) reply h = h

@@ -2,7 +2,7 @@
 -- it is broken, and its words.
 use Prim.Native.Nat.{ℕ, _<_, _≤_}
 use mathlib.Core.Path.{_≡_, refl, sym, ap, _∙_}
-use mathlib.Core.Bool.{true, false}
+use mathlib.Core.Bool.{Bool, true, false}
 use mathlib.Core.List.{List, [], _∷_}
 use native.Mathlib.Omega.{arith}
 use lib.ListN.{length, getD, take}
@@ -13,11 +13,12 @@ use Rattle.laws.proofs.Lists.{part-from}
 use Rattle.laws.proofs.Texts.{begins-take}
 use Rattle.panels.specs.declared.WRecord.{WRecord}
 use Rattle.trimming.proofs.Trimmed.{Ended, endsBare}
-use Rattle.vmc_asks.proofs.Ended.{read-ended}
-use Rattle.sdcp_asks.specs.Asks.{front, isOurs, isBroken, dataOf, heardOf}
+use Rattle.vmc_asks.specs.Asks.{asksStatus}
+use Rattle.vmc_asks.proofs.Ended.{read-ended, question-ended}
+use Rattle.sdcp_asks.specs.Asks.{front, isOurs, isBroken, dataOf, heardOf, unlessStatus, castOf}
 use Rattle.sdcp_asks.specs.declared.Heard.{Heard}
 use Rattle.sdcp_asks.specs.declared.Heard.the-variants.{Refused, Broken, NotUnderstood, Understood}
-use Rattle.sdcp.specs.Replies.{packetOf, bytesOf, turned, turnOf}
+use Rattle.sdcp.specs.Replies.{packetOf, bytesOf, turned, turnOf, castTurnOf}
 use Rattle.sdcp.specs.declared.Reply.{Reply}
 use Rattle.sdcp.specs.declared.Reply.the-variants.{Silent, Ng, Ok}
 
@@ -72,3 +73,11 @@ module _ (p q : List ℕ) (e : EndedAs p q) where
   -- what a panel does with it: record, answer and reply
   pub turn-ended : (w : WRecord) → turnOf q w ≡ turnOf p w
   turn-ended w = heard-so (heardOf q) w ∙ ap (λ (x : Heard). turned p x w) heard-ended
+
+  -- and by UDP
+  pub cast-ended : castOf q ≡ castOf p
+  unfolding castOf
+  cast-ended = ap (λ (b : Bool). unlessStatus b (heardOf q)) (question-ended (dataOf p) (dataOf q) (e .ends-bare) (e .ended)) ∙ ap (unlessStatus (asksStatus (dataOf p))) heard-ended
+
+  pub cast-turn-ended : (w : WRecord) → castTurnOf q w ≡ castTurnOf p w
+  cast-turn-ended w = heard-so (castOf q) w ∙ ap (λ (x : Heard). turned p x w) cast-ended

@@ -1,4 +1,4 @@
--- Document 01, "SDCP and VMC (001, 002, 004)": the packet, and what it asks.
+-- Document 01, "SDCP and VMC (001, 002, 004)", and document 02, §5: the packet, and what it asks.
 use Prim.Native.Nat.{ℕ, _-_}
 use mathlib.Core.Bool.{Bool, not, cond, _||_}
 use mathlib.Core.List.{List, [], _∷_}
@@ -6,8 +6,8 @@ use lib.ListN.{length, getD, drop}
 use lib.Dec.{eqb, ltb}
 use Rattle.laws.specs.Bytes.{ascii, begins}
 use Rattle.laws.specs.Numbers.{number}
-use Rattle.terms.specs.declared.Answer.the-variants.{WrongLength, NotForUs}
-use Rattle.vmc_asks.specs.Asks.{readData}
+use Rattle.terms.specs.declared.Answer.the-variants.{WrongLength, NotForUs, StatusByBroadcast}
+use Rattle.vmc_asks.specs.Asks.{readData, asksStatus}
 use Rattle.vmc_asks.specs.declared.Words.{Words}
 use Rattle.vmc_asks.specs.declared.Words.the-variants.{Understood as UnderstoodWords, NotUnderstood as NotUnderstoodWords}
 use Rattle.sdcp_asks.specs.declared.Heard.{Heard}
@@ -57,3 +57,15 @@ heardOf m =
     (cond (not (isOurs m)) (Refused NotForUs)
     (cond (isBroken m) Broken
     (inWords (readData (dataOf m)))))
+
+-- Document 02, §5, "8, after 5 and before 6": what was heard of a packet, where it asks for a status that it may not ask for
+abbrev pub unlessStatus : Bool → Heard → Heard
+unlessStatus asked (Refused a) = Refused a
+unlessStatus asked Broken = Broken
+unlessStatus asked NotUnderstood = cond asked (Refused StatusByBroadcast) NotUnderstood
+unlessStatus asked (Understood o) = cond asked (Refused StatusByBroadcast) (Understood o)
+
+-- "when the packet passes the envelope checks, came by UDP, and the trimmed data is STATget alone or begins with STATget and a space": what a
+-- packet asks that came by UDP
+unfoldable pub castOf : List ℕ → Heard
+castOf m = unlessStatus (asksStatus (dataOf m)) (heardOf m)

@@ -1,19 +1,22 @@
-// SDCP: what a packet asks, whoever it is addressed to and whatever the panel (document 01, "SDCP and VMC (001, 002, 004)").
+// SDCP: what a packet asks, whoever it is addressed to and whatever the panel (document 01, "SDCP and VMC (001, 002, 004)"; document
+// 02, §5).
 use octets::begins_with;
 use octets::byte_at;
 use octets::number2;
 use terms::Answer;
 use vmc_asks::Order;
 use vmc_asks::Words;
+use vmc_asks::asks_status;
 use vmc_asks::read_data;
 ghost use mathlib.Core.Path.{_≡_};
 ghost use Prim.Native.Nat.{_≤_};
+ghost use Rattle.vmc_asks.specs.Asks.{asksStatus};
 ghost use lib.ListN.{length};
-ghost use Rattle.sdcp_asks.specs.Asks.{isOurs, isBroken, heardOf};
+ghost use Rattle.sdcp_asks.specs.Asks.{isOurs, isBroken, dataOf, heardOf, castOf};
 
 // What a packet asks, whoever is addressed.
 pub enum Heard {
-    // 3 and 4: no reply
+    // 3 and 4, and by UDP 8: no reply
     Refused(Answer),
     // 5
     Broken,
@@ -64,4 +67,30 @@ pub fn hear(m: &[u8]) -> Heard
         return Heard::NotUnderstood;
     };
     Heard::Understood(o)
+}
+
+// Whether the data area asks for a status. It is lent on as a part, as to the word reader.
+fn asks_for_status(m: &[u8]) -> bool
+    ensures { λ r. ⌜ r ≡ asksStatus (dataOf (now (m .entry))) ⌝ }
+{
+    if m.len() < 13 {
+        return false;
+    }
+    asks_status(&m[13..])
+}
+
+// What a packet asks that came by UDP. What it asks for is looked at behind the envelope, so that 8 comes after 5 and before 6.
+pub fn hear_cast(m: &[u8]) -> Heard
+    ensures { λ r. ⌜ r ≡ castOf (now (m .entry)) ⌝ }
+{
+    let h = hear(m);
+    if !asks_for_status(m) {
+        return h;
+    }
+    match h {
+        Heard::Refused(answer) => Heard::Refused(answer),
+        Heard::Broken => Heard::Broken,
+        Heard::NotUnderstood => Heard::Refused(Answer::StatusByBroadcast),
+        Heard::Understood(_) => Heard::Refused(Answer::StatusByBroadcast),
+    }
 }

@@ -29,6 +29,7 @@ use Rattle.vmc.proofs.Validity.{understood-fits}
 use Rattle.vmc.proofs.AskedBack.{set-told, others-told, shift-told, reset-told}
 use Rattle.sdcp_asks.specs.Asks.{isOurs, isBroken, inWords, dataOf, heardOf}
 use Rattle.sdcp.specs.Replies as packets
+use Rattle.sdcp.proofs.Cast.{heard-words}
 use Rattle.sdcp_asks.specs.declared.Heard.the-variants.{Refused, Broken, Understood}
 use Rattle.sdcp.specs.declared.Reply.the-variants.{Ok}
 use Rattle.steps.specs.Messages.{Message, tcp, names}
@@ -56,19 +57,6 @@ asked b i l k p area r e = record {
   where
     f : taken (length area) (packets.turnOf p) (panelAt i b .w) ≡ record { after = carried (Get k) (panelAt i b .w); answer = Done; reply = packets.bytesOf p (Ok (saysOf (Get k) (panelAt i b .w))) }
     f = told-order (length area) p (Get k) (panelAt i b .w) (has-room (on-link p) r) e
-
--- a packet that is understood has words that are
-pub heard-words : (p : List ℕ) (o : Order) → heardOf p ≡ Understood o → readData (dataOf p) ≡ UnderstoodWords o
-unfolding heardOf
-heard-words p o e =
-    let t = passed (ltb (length p) 13) (Refused WrongLength) _ (Understood o) (λ q. let z : _≡_ {A = ℕ} 0 1 = cc in omega arith) e in
-    let u = passed (not (isOurs p)) (Refused NotForUs) _ (Understood o) (λ q. let z : _≡_ {A = ℕ} 0 1 = cc in omega arith) (t .1) in
-    let v = passed (isBroken p) Broken _ (Understood o) (λ q. let z : _≡_ {A = ℕ} 0 1 = cc in omega arith) (u .1) in
-    go (readData (dataOf p)) (v .1)
-  where
-    go : (x : Words) → inWords x ≡ Understood o → x ≡ UnderstoodWords o
-    go (UnderstoodWords o′) q = cc
-    go NotUnderstoodWords q = absurd (let z : _≡_ {A = ℕ} 0 1 = cc in omega arith)
 
 -- a STATget of name k that comes to the panel next, or after any messages of which none that is addressed to it sets that name, brings these words
 abbrev pub ToldLater : DisplayBox → ℕ → ℕ → List ℕ → Type 0

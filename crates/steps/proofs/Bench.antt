@@ -164,6 +164,10 @@ ended group unit = packet group unit 0x00 0x00 0x13 (ascii "STATset VOLUME 40" +
 abbrev flippedHv : Message
 flippedHv = udp (packet 0x01 0xff 0x00 0x00 0x11 (ascii "STATset FLIPHV ON"))
 
+-- words to every W panel
+abbrev toAll : ℕ → List ℕ → Message
+toAll size words = udp (packet 0xff 0xff 0x00 0x00 size words)
+
 abbrev remoteAsked : ℕ → ℕ → Message
 remoteAsked link room = rs232c link (0x02 ∷ 0x03 ∷ 0x01 ∷ 0x41 ∷ 0x6e ∷ 0x4d ∷ []) (lent room)
 
@@ -193,6 +197,21 @@ more =
     record { before = onTcp 0x10 "STATset FLIPH ON" ∷ onTcp 0x10 "STATset FLIPV ON" ∷ []; message = onTcp 0x0d "STATget FLIPH"; answer = 0; reply = packet 0x00 0x00 0x01 0x00 0x09 (ascii "FLIPH OFF"); looks = flips; values = pos 2 ∷ pos 0 ∷ pos 0 ∷ pos 0 ∷ [] } ∷
     record { before = flippedHv ∷ []; message = onTcp 0x11 "STATset FLIPH OFF"; answer = 0; reply = ok; looks = flips; values = pos 3 ∷ pos 3 ∷ pos 0 ∷ pos 0 ∷ [] } ∷
     record { before = flippedHv ∷ []; message = onTcp 0x12 "STATset FLIPHV OFF"; answer = 0; reply = ok; looks = flips; values = pos 0 ∷ pos 3 ∷ pos 0 ∷ pos 0 ∷ [] } ∷
+    -- document 02, §5: by UDP a question is 8, with any name or none, and what only looks like one is 6
+    leaves (toAll 0x0e (ascii "STATget VOLUME")) 8 [] volumes (pos 30 ∷ pos 30 ∷ pos 30 ∷ pos 30 ∷ []) ∷
+    says (toAll 0x0f (ascii "STATget NOTHING")) 8 [] ∷
+    says (toAll 0x07 (ascii "STATget")) 8 [] ∷
+    says (toAll 0x08 (ascii "STATget ")) 8 [] ∷
+    says (toAll 0x08 (ascii "STATget" ++ (0x00 ∷ []))) 8 [] ∷
+    says (toAll 0x0d (ascii "STATgetVOLUME")) 6 [] ∷
+    says (toAll 0x0f (ascii " STATget VOLUME")) 6 [] ∷
+    says (toAll 0x12 (ascii "STATset VOLUME 101")) 6 [] ∷
+    -- 5, 4 and 3 come before it
+    says (toAll 0x0d (ascii "STATget VOLUME")) 5 [] ∷
+    says (udp (packet 0x03 0xff 0x00 0x00 0x0e (ascii "STATget VOLUME"))) 4 [] ∷
+    says (udp (0x03 ∷ 0x0b ∷ 0x53 ∷ 0x4f ∷ 0x4e ∷ 0x59 ∷ 0xff ∷ 0xff ∷ 0x00 ∷ 0xb0 ∷ 0x00 ∷ 0x00 ∷ [])) 3 [] ∷
+    -- and by TCP nothing changes
+    says (onTcp 0x0f "STATget NOTHING") 6 ok ∷
     -- by TCP on link 4 to the pair 1/2: that panel acts, and the reply is in the link's area
     leaves (tcp 4 (packet 0x01 0x02 0x00 0x00 0x11 (ascii "STATset VOLUME 40")) (lent 600)) 0 (packet 0x01 0x02 0x01 0x00 0x00 []) volumes (pos 30 ∷ pos 40 ∷ pos 30 ∷ pos 30 ∷ []) ∷
     -- the pair 2/2, which no panel has: 4

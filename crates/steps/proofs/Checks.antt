@@ -5,7 +5,7 @@ use mathlib.Core.Path.{_≡_, refl, sym, ap, _∙_}
 use mathlib.Core.Bool.{Bool, true, false, not, cond, _&&_, or-true}
 use mathlib.Core.List.{List, [], _∷_}
 use lib.Dec.{eqb, ltb}
-use lib.ListN.{length, getD}
+use lib.ListN.{length, getD, drop}
 use borrow.Author.Tests.{eqb-true, ltb-true, ltb-false, le-ltb}
 use Rattle.terms.specs.Answers.{numberOf}
 use Rattle.terms.specs.declared.Answer.the-variants.{Done, WrongLength, NotForUs}
@@ -19,17 +19,19 @@ use Rattle.panels.specs.declared.KRecord.{KRecord}
 use Rattle.panels.specs.declared.DisplayBox.{DisplayBox}
 use Rattle.rs232c.specs.Replies as serial
 use Rattle.kjw.specs.Replies as frames
+use Rattle.vmc_asks.specs.Asks.{asksStatus}
 use Rattle.sdcp_asks.specs.Asks as packetAsks
+use Rattle.sdcp_asks.proofs.Cast.{unless-not}
 use Rattle.sdcp.specs.Replies as packets
 use Rattle.sdcp.proofs.Refusals.{turned-answer}
 use Rattle.steps.specs.Messages.{Message, rs232c, kjw, tcp, udp, Name, nobody, aW, aK, nameOf, names, onLink, isW, isK}
 use Rattle.steps.specs.Addressing.{target, anyCalled}
-use Rattle.steps.specs.Step.{toNobody, door, turn, Outcome, panelAt, answerTo, step}
+use Rattle.steps.specs.Step.{checks, toNobody, door, turn, Outcome, panelAt, answerTo, step}
 use Rattle.steps.proofs.Door.{Lends, by-rs232c, by-kjw, by-tcp, nobody-shut, speaks}
 use Rattle.steps.proofs.Validity.{bad-names, in-use-name, unused-name}
 use Rattle.steps.proofs.Refusals.{too-small, no-such-panel}
 use Rattle.steps.proofs.Addressed.{w-panel}
-use Rattle.steps.proofs.Judged.{firstFrom, serialConditions, serial-answered, packetConditions, packetUnclear, packet-answered, frameConditions, frame-answered}
+use Rattle.steps.proofs.Judged.{firstOf, ownChecks, serialConditions, serial-answered, packetConditions, packetUnclear, packet-answered, frameConditions, frame-answered}
 
 -- ---- the conditions
 
@@ -39,13 +41,13 @@ abbrev pub hasPanel : DisplayBox → ℕ → ℕ → Bool
 hasPanel b zero family = false
 hasPanel b (suc i) family = valid b && ltb i (b .count) && eqb (panelAt i b .family) family
 
--- those of the answers 1 to 6, in the order of the numbers: "reply area under 512 bytes", no panel, and what its protocol says of 3 to 6. "UDP
--- skips 1 and 2."
+-- those of the answers, in the order of their checks: "reply area under 512 bytes", no panel, and what its protocol says of the others. "UDP
+-- skips 1 and 2.", and document 02, §5, has 8 for UDP alone
 abbrev pub conditions : DisplayBox → Message → List Bool
 conditions b (rs232c l m area) = ltb (length area) 512 ∷ not (hasPanel b l familyW) ∷ serialConditions m
 conditions b (kjw l m area) = ltb (length area) 512 ∷ not (hasPanel b l familyK) ∷ frameConditions m
-conditions b (tcp l m area) = ltb (length area) 512 ∷ not (hasPanel b l familyW) ∷ packetConditions (eqb (target (names b) (tcp l m area)) 0) m
-conditions b (udp m) = false ∷ false ∷ packetConditions (not (anyCalled m (names b))) m
+conditions b (tcp l m area) = ltb (length area) 512 ∷ not (hasPanel b l familyW) ∷ packetConditions (eqb (target (names b) (tcp l m area)) 0) false m
+conditions b (udp m) = false ∷ false ∷ packetConditions (not (anyCalled m (names b))) (asksStatus (packetAsks.dataOf m)) m
 
 -- ---- check 2 in words of the record
 
@@ -84,27 +86,27 @@ k-has = has-panel isK familyK refl k-panel
 -- ---- with a link
 
 -- checks 1 and 2 come first; where neither applies the others follow
-lent-checked : {l : ℕ} {area : List ℕ} {m : Message} (b : DisplayBox) (fits : Bool) (rest : List Bool) → Lends l area m → speaks m (onLink (names b) l) ≡ fits → (512 ≤ length area → fits ≡ true → numberOf (step b m .answer) ≡ firstFrom 3 rest) → numberOf (step b m .answer) ≡ firstFrom 1 (ltb (length area) 512 ∷ not fits ∷ rest)
+lent-checked : {l : ℕ} {area : List ℕ} {m : Message} (b : DisplayBox) (fits : Bool) (rest : List Bool) → Lends l area m → speaks m (onLink (names b) l) ≡ fits → (512 ≤ length area → fits ≡ true → numberOf (step b m .answer) ≡ firstOf ownChecks rest) → numberOf (step b m .answer) ≡ firstOf checks (ltb (length area) 512 ∷ not fits ∷ rest)
 lent-checked {l} {area} {m} b fits rest k s go = room (ltb (length area) 512) refl
   where
     number : Outcome → ℕ
     number o = numberOf (o .answer)
 
-    link : (f : Bool) → fits ≡ f → 512 ≤ length area → numberOf (step b m .answer) ≡ firstFrom 2 (not f ∷ rest)
+    link : (f : Bool) → fits ≡ f → 512 ≤ length area → numberOf (step b m .answer) ≡ firstOf (drop 1 checks) (not f ∷ rest)
     link true f h = go h f
     link false f h = ap number (no-such-panel b l area m k h (s ∙ f))
 
-    room : (t : Bool) → ltb (length area) 512 ≡ t → numberOf (step b m .answer) ≡ firstFrom 1 (t ∷ not fits ∷ rest)
+    room : (t : Bool) → ltb (length area) 512 ≡ t → numberOf (step b m .answer) ≡ firstOf checks (t ∷ not fits ∷ rest)
     room true t = ap number (too-small b l area m k (ltb-true (length area) 512 t))
     room false t = link fits refl (ltb-false (length area) 512 t)
 
-serial-checked : (b : DisplayBox) (l : ℕ) (m area : List ℕ) → 512 ≤ length area → isW (onLink (names b) l) ≡ true → numberOf (step b (rs232c l m area) .answer) ≡ firstFrom 3 (serialConditions m)
+serial-checked : (b : DisplayBox) (l : ℕ) (m area : List ℕ) → 512 ≤ length area → isW (onLink (names b) l) ≡ true → numberOf (step b (rs232c l m area) .answer) ≡ firstOf ownChecks (serialConditions m)
 unfolding step door turn target
 serial-checked b l m area h w =
     rw (le-ltb (length area) 512 h, w)
     (ap (λ (t : Turn WRecord). numberOf (t .answer)) (roomy (length area) (serial.turnOf m) _ h) ∙ serial-answered m _)
 
-frame-checked : (b : DisplayBox) (l : ℕ) (m area : List ℕ) → 512 ≤ length area → isK (onLink (names b) l) ≡ true → numberOf (step b (kjw l m area) .answer) ≡ firstFrom 3 (frameConditions m)
+frame-checked : (b : DisplayBox) (l : ℕ) (m area : List ℕ) → 512 ≤ length area → isK (onLink (names b) l) ≡ true → numberOf (step b (kjw l m area) .answer) ≡ firstOf ownChecks (frameConditions m)
 unfolding step door turn target
 frame-checked b l m area h w =
     rw (le-ltb (length area) 512 h, w)
@@ -113,24 +115,24 @@ frame-checked b l m area h w =
 -- ---- a packet
 
 -- where nobody is addressed it is 3 or 4, and else what was heard decides
-packet-checked : (b : DisplayBox) (x : Message) (m : List ℕ) (none : Bool) → door (names b) x ≡ cond none (toNobody m) Done → answerTo (names b) b x ≡ packets.answerOf (packetAsks.heardOf m) → numberOf (step b x .answer) ≡ firstFrom 3 (packetConditions none m)
+packet-checked : (b : DisplayBox) (x : Message) (m : List ℕ) (none asked : Bool) → door (names b) x ≡ cond none (toNobody m) Done → answerTo (names b) b x ≡ packets.answerOf (packetAsks.unlessStatus asked (packetAsks.heardOf m)) → numberOf (step b x .answer) ≡ firstOf ownChecks (packetConditions none asked m)
 unfolding step toNobody
-packet-checked b x m true d a = rw (d, nobody-shut m, or-true (not (packetAsks.isOurs m))) (go (ltb (length m) 13))
+packet-checked b x m true asked d a = rw (d, nobody-shut m, or-true (not (packetAsks.isOurs m))) (go (ltb (length m) 13))
   where
-    go : (t : Bool) → numberOf (cond t WrongLength NotForUs) ≡ firstFrom 3 (t ∷ true ∷ packetAsks.isBroken m ∷ packetUnclear (packetAsks.heardOf m) ∷ [])
+    go : (t : Bool) → numberOf (cond t WrongLength NotForUs) ≡ firstOf ownChecks (t ∷ true ∷ packetAsks.isBroken m ∷ asked ∷ packetUnclear (packetAsks.heardOf m) ∷ [])
     go true = refl
     go false = refl
-packet-checked b x m false d a = rw d (ap numberOf a ∙ packet-answered m)
+packet-checked b x m false asked d a = rw d (ap numberOf a ∙ packet-answered m asked)
 
-tcp-checked : (b : DisplayBox) (l : ℕ) (m area : List ℕ) → 512 ≤ length area → isW (onLink (names b) l) ≡ true → numberOf (step b (tcp l m area) .answer) ≡ firstFrom 3 (packetConditions (eqb (target (names b) (tcp l m area)) 0) m)
+tcp-checked : (b : DisplayBox) (l : ℕ) (m area : List ℕ) → 512 ≤ length area → isW (onLink (names b) l) ≡ true → numberOf (step b (tcp l m area) .answer) ≡ firstOf ownChecks (packetConditions (eqb (target (names b) (tcp l m area)) 0) false m)
 unfolding door turn
 tcp-checked b l m area h w =
-    packet-checked b (tcp l m area) m (eqb (target (names b) (tcp l m area)) 0) (rw (le-ltb (length area) 512 h, w))
-    (ap (λ (t : Turn WRecord). t .answer) (roomy (length area) (packets.turnOf m) _ h) ∙ turned-answer m (packetAsks.heardOf m) _)
+    packet-checked b (tcp l m area) m (eqb (target (names b) (tcp l m area)) 0) false (rw (le-ltb (length area) 512 h, w))
+    (ap (λ (t : Turn WRecord). t .answer) (roomy (length area) (packets.turnOf m) _ h) ∙ turned-answer m (packetAsks.heardOf m) _ ∙ ap packets.answerOf (sym (unless-not (packetAsks.heardOf m))))
 
-udp-checked : (b : DisplayBox) (m : List ℕ) → numberOf (step b (udp m) .answer) ≡ firstFrom 3 (packetConditions (not (anyCalled m (names b))) m)
-unfolding door
-udp-checked b m = packet-checked b (udp m) m (not (anyCalled m (names b))) (go (anyCalled m (names b))) refl
+udp-checked : (b : DisplayBox) (m : List ℕ) → numberOf (step b (udp m) .answer) ≡ firstOf ownChecks (packetConditions (not (anyCalled m (names b))) (asksStatus (packetAsks.dataOf m)) m)
+unfolding door packetAsks.castOf
+udp-checked b m = packet-checked b (udp m) m (not (anyCalled m (names b))) (asksStatus (packetAsks.dataOf m)) (go (anyCalled m (names b))) refl
   where
     go : (t : Bool) → cond t Done (toNobody m) ≡ cond (not t) (toNobody m) Done
     go true = refl
@@ -139,8 +141,8 @@ udp-checked b m = packet-checked b (udp m) m (not (anyCalled m (names b))) (go (
 -- ---- the box
 
 -- whatever the box and the message: the number of the first condition that holds, and 0 where none does
-pub checked : (b : DisplayBox) (m : Message) → numberOf (step b m .answer) ≡ firstFrom 1 (conditions b m)
+pub checked : (b : DisplayBox) (m : Message) → numberOf (step b m .answer) ≡ firstOf checks (conditions b m)
 checked b (rs232c l m area) = lent-checked b (hasPanel b l familyW) (serialConditions m) (by-rs232c m) (w-has b l) (λ h f. serial-checked b l m area h (w-has b l ∙ f))
 checked b (kjw l m area) = lent-checked b (hasPanel b l familyK) (frameConditions m) (by-kjw m) (k-has b l) (λ h f. frame-checked b l m area h (k-has b l ∙ f))
-checked b (tcp l m area) = lent-checked b (hasPanel b l familyW) (packetConditions (eqb (target (names b) (tcp l m area)) 0) m) (by-tcp m) (w-has b l) (λ h f. tcp-checked b l m area h (w-has b l ∙ f))
+checked b (tcp l m area) = lent-checked b (hasPanel b l familyW) (packetConditions (eqb (target (names b) (tcp l m area)) 0) false m) (by-tcp m) (w-has b l) (λ h f. tcp-checked b l m area h (w-has b l ∙ f))
 checked b (udp m) = udp-checked b m

@@ -16,10 +16,10 @@ use Rattle.turns.specs.Turns.{Turn, taken, turnWith}
 use Rattle.panels.specs.declared.WRecord.{WRecord}
 use Rattle.panels.specs.declared.Panel.{Panel}
 use Rattle.panels.specs.declared.DisplayBox.{DisplayBox}
-use Rattle.sdcp_asks.specs.Asks.{heardOf}
+use Rattle.sdcp_asks.specs.Asks.{castOf}
 use Rattle.sdcp_asks.specs.declared.Heard.{Heard}
-use Rattle.sdcp.specs.Replies.{answerOf, turnOf}
-use Rattle.sdcp.proofs.Ended.{EndedAs, first, heard-ended, turn-ended}
+use Rattle.sdcp.specs.Replies.{answerOf, turnOf, castTurnOf}
+use Rattle.sdcp.proofs.Ended.{EndedAs, first, turn-ended, cast-ended, cast-turn-ended}
 use Rattle.steps.specs.Messages.{Name, nobody, isW, onLink, names, tcp, udp}
 use Rattle.steps.specs.Addressing.{byTcp, target, isCalled, addressed, anyCalled}
 use Rattle.steps.specs.Step.{withW, withPanels, ifOpen, toNobody, door, turn, backOn, nothing, panelAt, Outcome, step}
@@ -49,7 +49,7 @@ byCall b calls any none heard does = cond (eqb (numberOf (cond any Done none)) 0
     done : Outcome
     done = record { box = withPanels b (each (λ (i : ℕ). calls (getD (names b) i nobody)) (λ (x : Panel). turnWith (withW x) (does (x .w)) .after) (b .panels)); answer = heard; back = nothing }
 
-by-call : (b : DisplayBox) (m : List ℕ) → step b (udp m) ≡ byCall b (isCalled m) (anyCalled m (names b)) (toNobody m) (answerOf (heardOf m)) (turnOf m)
+by-call : (b : DisplayBox) (m : List ℕ) → step b (udp m) ≡ byCall b (isCalled m) (anyCalled m (names b)) (toNobody m) (answerOf (castOf m)) (castTurnOf m)
 unfolding byCall step door turn addressed
 by-call b m = refl
 
@@ -68,6 +68,9 @@ module _ (p q : List ℕ) (e : EndedAs p q) where
   turns-alike : turnOf q ≡ turnOf p
   turns-alike = fun-ext (turn-ended p q e)
 
+  casts-alike : castTurnOf q ≡ castTurnOf p
+  casts-alike = fun-ext (cast-turn-ended p q e)
+
   -- box, answer, the reply's length and every byte of the area
   pub ended-tcp : (b : DisplayBox) (l : ℕ) (area : List ℕ) → step b (tcp l q area) ≡ step b (tcp l p area)
   ended-tcp b l area = by-link b l q area ∙ alike ∙ sym (by-link b l p area)
@@ -81,10 +84,10 @@ module _ (p q : List ℕ) (e : EndedAs p q) where
   pub ended-udp : (b : DisplayBox) → step b (udp q) ≡ step b (udp p)
   ended-udp b = by-call b q ∙ alike ∙ sym (by-call b p)
     where
-      alike : byCall b (isCalled q) (anyCalled q (names b)) (toNobody q) (answerOf (heardOf q)) (turnOf q) ≡ byCall b (isCalled p) (anyCalled p (names b)) (toNobody p) (answerOf (heardOf p)) (turnOf p)
+      alike : byCall b (isCalled q) (anyCalled q (names b)) (toNobody q) (answerOf (castOf q)) (castTurnOf q) ≡ byCall b (isCalled p) (anyCalled p (names b)) (toNobody p) (answerOf (castOf p)) (castTurnOf p)
       alike =
-          ap (λ (f : Name → Bool). byCall b f (anyCalled q (names b)) (toNobody q) (answerOf (heardOf q)) (turnOf q)) (fun-ext (called-alike [] q p eight-alike))
-          ∙ ap (λ (c : Bool). byCall b (isCalled p) c (toNobody q) (answerOf (heardOf q)) (turnOf q)) (any-alike (names b))
-          ∙ ap (λ (a : Answer). byCall b (isCalled p) (anyCalled p (names b)) a (answerOf (heardOf q)) (turnOf q)) nobody-alike
-          ∙ ap (λ (x : Heard). byCall b (isCalled p) (anyCalled p (names b)) (toNobody p) (answerOf x) (turnOf q)) (heard-ended p q e)
-          ∙ ap (byCall b (isCalled p) (anyCalled p (names b)) (toNobody p) (answerOf (heardOf p))) turns-alike
+          ap (λ (f : Name → Bool). byCall b f (anyCalled q (names b)) (toNobody q) (answerOf (castOf q)) (castTurnOf q)) (fun-ext (called-alike [] q p eight-alike))
+          ∙ ap (λ (c : Bool). byCall b (isCalled p) c (toNobody q) (answerOf (castOf q)) (castTurnOf q)) (any-alike (names b))
+          ∙ ap (λ (a : Answer). byCall b (isCalled p) (anyCalled p (names b)) a (answerOf (castOf q)) (castTurnOf q)) nobody-alike
+          ∙ ap (λ (x : Heard). byCall b (isCalled p) (anyCalled p (names b)) (toNobody p) (answerOf x) (castTurnOf q)) (cast-ended p q e)
+          ∙ ap (byCall b (isCalled p) (anyCalled p (names b)) (toNobody p) (answerOf (castOf p))) casts-alike

@@ -1,11 +1,11 @@
 -- Behind the envelope a message is understood or it is not: by the rungs of what each protocol hears, whatever the panel.
-use Prim.Native.Nat.{ℕ, suc, _+_, _*_, _%_}
+use Prim.Native.Nat.{ℕ, _+_, _*_, _%_}
 use mathlib.Core.Path.{_≡_, refl, sym, _∙_}
 use mathlib.Core.Bool.{Bool, true, false, not, cond, _&&_, _||_}
 use mathlib.Core.List.{List, [], _∷_}
 use lib.Count.{ones}
 use lib.Dec.{eqb, ltb}
-use lib.ListN.{length, getD}
+use lib.ListN.{length, getD, drop}
 use Rattle.laws.specs.Bytes.{ascii, part, same}
 use Rattle.laws.specs.Lists.{every}
 use Rattle.laws.proofs.Conditions.{choose, false-true}
@@ -31,6 +31,7 @@ use Rattle.sdcp.specs.Replies as packets
 use Rattle.sdcp_asks.specs.declared.Heard as packetHeard
 use Rattle.sdcp_asks.specs.declared.Heard.the-variants as packetIs
 use Rattle.kjw.specs.Replies as frames
+use Rattle.steps.specs.Step.{checks}
 use Rattle.kjw_asks.specs.Asks as frameAsks
 use Rattle.kjw_sets.specs.Words.{switches, scenes}
 use Rattle.kjw_sets.specs.Sets as frameSets
@@ -44,10 +45,15 @@ use Rattle.kjw_sets.specs.declared.Order.the-variants as frameOrders
 use Rattle.kjw_sets.specs.declared.Heard as frameHeard
 use Rattle.kjw_sets.specs.declared.Heard.the-variants as frameIs
 
--- the number of the first of some conditions that holds, counted from n; 0 where none does
-abbrev pub firstFrom : ℕ → List Bool → ℕ
-firstFrom n [] = 0
-firstFrom n (c ∷ cs) = cond c n (firstFrom (suc n) cs)
+-- the number of the first of some conditions that holds; 0 where none does
+abbrev pub firstOf : List ℕ → List Bool → ℕ
+firstOf [] cs = 0
+firstOf (n ∷ ns) [] = 0
+firstOf (n ∷ ns) (c ∷ cs) = cond c n (firstOf ns cs)
+
+-- the checks that a protocol makes: those behind 1 and 2
+abbrev pub ownChecks : List ℕ
+ownChecks = drop 2 checks
 
 -- ---- RS-232C
 
@@ -61,7 +67,7 @@ serialUnclear (serialIs.Understood s o) = false
 -- "Under 6 bytes: 3. First byte not 02h, destination not 01h, or source outside 41h to 7Fh: 4. Byte count [..]: 5. The sum [..]: 5.", and 6 where the
 -- command is not understood
 abbrev pub serialConditions : List ℕ → List Bool
-serialConditions m = ltb (length m) 6 ∷ serialAsks.isForeign m ∷ serialAsks.isBroken m ∷ serialUnclear (serialAsks.heardOf m) ∷ []
+serialConditions m = ltb (length m) 6 ∷ serialAsks.isForeign m ∷ serialAsks.isBroken m ∷ false ∷ serialUnclear (serialAsks.heardOf m) ∷ []
 
 abbrev serialNumber : serialHeard.Heard → ℕ
 serialNumber (serialIs.Refused a) = numberOf a
@@ -98,11 +104,11 @@ command-judged s code bytes =
     (λ g. choose SerialJudged (eqb code 0x61) _ _ (λ h. good-judged (eqb n 1 && (eqb x 1 || eqb x 2)) s (serialOrders.Sense x))
     (λ h. choose SerialJudged (eqb code 0x6e) _ _ (λ i. good-judged (eqb n 0) s serialOrders.Remote) (λ i. tt)))))
 
-serial-heard : (m : List ℕ) → serialNumber (serialAsks.heardOf m) ≡ firstFrom 3 (serialConditions m)
+serial-heard : (m : List ℕ) → serialNumber (serialAsks.heardOf m) ≡ firstOf ownChecks (serialConditions m)
 unfolding serialAsks.heardOf
 serial-heard m = go (ltb (length m) 6) (serialAsks.isForeign m) (serialAsks.isBroken m) (serialAsks.sourceOf m) _ (command-judged _ _ _)
   where
-    go : (a b c : Bool) (s : ℕ) (h : serialHeard.Heard) → SerialJudged h → serialNumber (cond a (serialIs.Refused WrongLength) (cond b (serialIs.Refused NotForUs) (cond c (serialIs.Broken s) h))) ≡ firstFrom 3 (a ∷ b ∷ c ∷ serialUnclear (cond a (serialIs.Refused WrongLength) (cond b (serialIs.Refused NotForUs) (cond c (serialIs.Broken s) h))) ∷ [])
+    go : (a b c : Bool) (s : ℕ) (h : serialHeard.Heard) → SerialJudged h → serialNumber (cond a (serialIs.Refused WrongLength) (cond b (serialIs.Refused NotForUs) (cond c (serialIs.Broken s) h))) ≡ firstOf ownChecks (a ∷ b ∷ c ∷ false ∷ serialUnclear (cond a (serialIs.Refused WrongLength) (cond b (serialIs.Refused NotForUs) (cond c (serialIs.Broken s) h))) ∷ [])
     go true b c s h j = refl
     go false true c s h j = refl
     go false false true s h j = refl
@@ -116,7 +122,7 @@ serial-turned (serialIs.NotUnderstood s) vs w = refl
 serial-turned (serialIs.Understood s o) vs w = refl
 
 -- the number of the answer to a frame
-pub serial-answered : (m : List ℕ) (w : WRecord) → numberOf (serial.turnOf m w .answer) ≡ firstFrom 3 (serialConditions m)
+pub serial-answered : (m : List ℕ) (w : WRecord) → numberOf (serial.turnOf m w .answer) ≡ firstOf ownChecks (serialConditions m)
 serial-answered m w = serial-turned (serialAsks.heardOf m) (serialAsks.valuesOf m) w ∙ serial-heard m
 
 -- condition 6 in words of what was heard; past the envelope nothing is refused or broken, so without it an order is understood
@@ -147,11 +153,11 @@ packetUnclear packetIs.Broken = false
 packetUnclear packetIs.NotUnderstood = true
 packetUnclear (packetIs.Understood o) = false
 
--- "Under 13 bytes: 3. Wrong version, category or community, or no panel addressed: 4. [..] Then 5 if request is not 00h, [..]", and 6 where the
--- words are not understood
-abbrev pub packetConditions : Bool → List ℕ → List Bool
-packetConditions nobody m =
-    ltb (length m) 13 ∷ (not (packetAsks.isOurs m) || nobody) ∷ packetAsks.isBroken m ∷ packetUnclear (packetAsks.heardOf m) ∷ []
+-- "Under 13 bytes: 3. Wrong version, category or community, or no panel addressed: 4. [..] Then 5 if request is not 00h, [..]", 8 where a status
+-- is asked for that may not be, and 6 where the words are not understood
+abbrev pub packetConditions : Bool → Bool → List ℕ → List Bool
+packetConditions nobody asked m =
+    ltb (length m) 13 ∷ (not (packetAsks.isOurs m) || nobody) ∷ packetAsks.isBroken m ∷ asked ∷ packetUnclear (packetAsks.heardOf m) ∷ []
 
 abbrev PacketJudged : packetHeard.Heard → Type 0
 PacketJudged (packetIs.Refused a) = ⊥
@@ -159,26 +165,28 @@ PacketJudged packetIs.Broken = ⊥
 PacketJudged packetIs.NotUnderstood = Unit {0}
 PacketJudged (packetIs.Understood o) = Unit {0}
 
-packet-number : (h : packetHeard.Heard) → PacketJudged h → numberOf (packets.answerOf h) ≡ cond (packetUnclear h) 6 0
-packet-number (packetIs.Refused a) j = absurd j
-packet-number packetIs.Broken j = absurd j
-packet-number packetIs.NotUnderstood j = refl
-packet-number (packetIs.Understood o) j = refl
+packet-number : (asked : Bool) (h : packetHeard.Heard) → PacketJudged h → numberOf (packets.answerOf (packetAsks.unlessStatus asked h)) ≡ cond asked 8 (cond (packetUnclear h) 6 0)
+packet-number asked (packetIs.Refused a) j = absurd j
+packet-number asked packetIs.Broken j = absurd j
+packet-number true packetIs.NotUnderstood j = refl
+packet-number false packetIs.NotUnderstood j = refl
+packet-number true (packetIs.Understood o) j = refl
+packet-number false (packetIs.Understood o) j = refl
 
 words-judged : (x : Words) → PacketJudged (packetAsks.inWords x)
 words-judged (UnderstoodWords o) = tt
 words-judged NotUnderstoodWords = tt
 
--- the number of the answer to a packet, whatever the panel
-pub packet-answered : (m : List ℕ) → numberOf (packets.answerOf (packetAsks.heardOf m)) ≡ firstFrom 3 (packetConditions false m)
+-- the number of the answer to a packet, whatever the panel, and whether or not a status is refused
+pub packet-answered : (m : List ℕ) (asked : Bool) → numberOf (packets.answerOf (packetAsks.unlessStatus asked (packetAsks.heardOf m))) ≡ firstOf ownChecks (packetConditions false asked m)
 unfolding packetAsks.heardOf
-packet-answered m = go (ltb (length m) 13) (not (packetAsks.isOurs m)) (packetAsks.isBroken m) _ (words-judged (readData (packetAsks.dataOf m)))
+packet-answered m asked = go (ltb (length m) 13) (not (packetAsks.isOurs m)) (packetAsks.isBroken m) _ (words-judged (readData (packetAsks.dataOf m)))
   where
-    go : (a b c : Bool) (h : packetHeard.Heard) → PacketJudged h → numberOf (packets.answerOf (cond a (packetIs.Refused WrongLength) (cond b (packetIs.Refused NotForUs) (cond c packetIs.Broken h)))) ≡ firstFrom 3 (a ∷ (b || false) ∷ c ∷ packetUnclear (cond a (packetIs.Refused WrongLength) (cond b (packetIs.Refused NotForUs) (cond c packetIs.Broken h))) ∷ [])
+    go : (a b c : Bool) (h : packetHeard.Heard) → PacketJudged h → numberOf (packets.answerOf (packetAsks.unlessStatus asked (cond a (packetIs.Refused WrongLength) (cond b (packetIs.Refused NotForUs) (cond c packetIs.Broken h))))) ≡ firstOf ownChecks (a ∷ (b || false) ∷ c ∷ asked ∷ packetUnclear (cond a (packetIs.Refused WrongLength) (cond b (packetIs.Refused NotForUs) (cond c packetIs.Broken h))) ∷ [])
     go true b c h j = refl
     go false true c h j = refl
     go false false true h j = refl
-    go false false false h j = packet-number h j
+    go false false false h j = packet-number asked h j
 
 pub packet-unclear : (m : List ℕ) → packetUnclear (packetAsks.heardOf m) ≡ true → packetAsks.heardOf m ≡ packetIs.NotUnderstood
 packet-unclear m = go (packetAsks.heardOf m)
@@ -208,7 +216,7 @@ frameUnclear (frameIs.Understood o) = false
 
 -- "Other length: 3. Wrong `*S`, footer, or a type not C or E: 4. [..] All else: 6.": there is no envelope to be wrong
 abbrev pub frameConditions : List ℕ → List Bool
-frameConditions m = not (eqb (length m) 24) ∷ not (frameAsks.isOurs m) ∷ false ∷ frameUnclear (frameAsks.heardOf m) ∷ []
+frameConditions m = not (eqb (length m) 24) ∷ not (frameAsks.isOurs m) ∷ false ∷ false ∷ frameUnclear (frameAsks.heardOf m) ∷ []
 
 abbrev frameNumber : frameHeard.Heard → ℕ
 frameNumber (frameIs.Refused a) = numberOf a
@@ -268,11 +276,11 @@ asks-judged : (m : List ℕ) → FrameJudged (cond (eqb (getD m 2 0) typeControl
 unfolding frameAsks.controlOf
 asks-judged m = choose FrameJudged (eqb (getD m 2 0) typeControl) _ _ (λ g. control-judged (frameAsks.stateNamed (lettersOf m)) (lettersOf m) (part 7 16 m)) (λ g. enquiry-judged (lettersOf m) (part 7 16 m))
 
-frame-heard : (m : List ℕ) → frameNumber (frameAsks.heardOf m) ≡ firstFrom 3 (frameConditions m)
+frame-heard : (m : List ℕ) → frameNumber (frameAsks.heardOf m) ≡ firstOf ownChecks (frameConditions m)
 unfolding frameAsks.heardOf
 frame-heard m = go (not (eqb (length m) 24)) (not (frameAsks.isOurs m)) _ (asks-judged m)
   where
-    go : (a b : Bool) (h : frameHeard.Heard) → FrameJudged h → frameNumber (cond a (frameIs.Refused WrongLength) (cond b (frameIs.Refused NotForUs) h)) ≡ firstFrom 3 (a ∷ b ∷ false ∷ frameUnclear (cond a (frameIs.Refused WrongLength) (cond b (frameIs.Refused NotForUs) h)) ∷ [])
+    go : (a b : Bool) (h : frameHeard.Heard) → FrameJudged h → frameNumber (cond a (frameIs.Refused WrongLength) (cond b (frameIs.Refused NotForUs) h)) ≡ firstOf ownChecks (a ∷ b ∷ false ∷ false ∷ frameUnclear (cond a (frameIs.Refused WrongLength) (cond b (frameIs.Refused NotForUs) h)) ∷ [])
     go true b h j = refl
     go false true h j = refl
     go false false h j = frame-number h j
@@ -284,7 +292,7 @@ frame-turned frameIs.NotUnderstood k = refl
 frame-turned (frameIs.Understood o) k = refl
 
 -- the number of the answer to a frame
-pub frame-answered : (m : List ℕ) (k : KRecord) → numberOf (frames.turnOf m k .answer) ≡ firstFrom 3 (frameConditions m)
+pub frame-answered : (m : List ℕ) (k : KRecord) → numberOf (frames.turnOf m k .answer) ≡ firstOf ownChecks (frameConditions m)
 unfolding frames.turnOf
 frame-answered m k = frame-turned (frameAsks.heardOf m) k ∙ frame-heard m
 

@@ -19,6 +19,7 @@ pub mod Refusals
 pub mod Shapes
 pub mod Sound
 pub mod Standins
+pub mod Status
 pub mod Stays
 pub mod Turns
 pub mod Validity

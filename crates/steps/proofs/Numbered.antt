@@ -1,46 +1,35 @@
--- Every message is answered with a number of the list: that of one of six conditions, or 0.
-use Prim.Native.Nat.{ℕ, zero, suc, _+_, _<_}
-use mathlib.Core.Path.{_≡_, refl}
-use mathlib.Core.Bool.{Bool, true, false}
+-- Every message is answered with a number of the list: that of one of its checks, or 0.
+use Prim.Native.Nat.{ℕ}
+use mathlib.Core.Path.{_≡_, refl, sym, ap, subst, _∙_}
+use mathlib.Core.Bool.{Bool, true, false, _||_, or-true}
 use mathlib.Core.List.{List, [], _∷_}
-use native.Mathlib.Omega.{arith}
-use lib.ListN.{length}
+use lib.Dec.{eqb}
+use borrow.Author.Tests.{eq-eqb}
 use Rattle.laws.specs.Lists.{listed}
+use Rattle.laws.proofs.Conditions.{false-true}
 use Rattle.terms.specs.Answers.{numberOf}
 use Rattle.panels.specs.declared.DisplayBox.{DisplayBox}
-use Rattle.steps.specs.Messages.{Message, rs232c, kjw, tcp, udp}
-use Rattle.steps.specs.Step.{messageAnswers, step}
-use Rattle.steps.proofs.Judged.{firstFrom}
+use Rattle.steps.specs.Messages.{Message}
+use Rattle.steps.specs.Step.{checks, messageAnswers, step}
+use Rattle.steps.proofs.Judged.{firstOf}
 use Rattle.steps.proofs.Checks.{conditions, checked}
 
-first-below : (n : ℕ) (cs : List Bool) → 0 < n → firstFrom n cs < n + length cs
-first-below n [] h = omega arith
-first-below n (true ∷ cs) h = omega arith
-first-below n (false ∷ cs) h = let k = first-below (suc n) cs (omega arith) in omega arith
-
-six : (b : DisplayBox) (m : Message) → length (conditions b m) ≡ 6
-six b (rs232c l m area) = refl
-six b (kjw l m area) = refl
-six b (tcp l m area) = refl
-six b (udp m) = refl
-
-below-7 : (b : DisplayBox) (m : Message) → numberOf (step b m .answer) < 7
-below-7 b m = omega (arith, checked b m, first-below 1 (conditions b m) (omega arith), six b m)
-
-in-list : (n : ℕ) → n < 7 → listed messageAnswers n ≡ true
-in-list zero h = refl
-in-list (suc zero) h = refl
-in-list (suc (suc zero)) h = refl
-in-list (suc (suc (suc zero))) h = refl
-in-list (suc (suc (suc (suc zero)))) h = refl
-in-list (suc (suc (suc (suc (suc zero))))) h = refl
-in-list (suc (suc (suc (suc (suc (suc zero)))))) h = refl
-in-list (suc (suc (suc (suc (suc (suc (suc n))))))) h = absurd (omega arith)
+-- the number of the first condition that holds is among the numbers, or 0
+first-listed : (ns : List ℕ) (cs : List Bool) → listed (0 ∷ ns) (firstOf ns cs) ≡ true
+first-listed [] cs = refl
+first-listed (n ∷ ns) [] = refl
+first-listed (n ∷ ns) (true ∷ cs) = rw (eq-eqb n n refl) (or-true (eqb n 0))
+first-listed (n ∷ ns) (false ∷ cs) = go (eqb (firstOf ns cs) 0) (eqb (firstOf ns cs) n) (first-listed ns cs)
+  where
+    go : (a b : Bool) → (a || listed ns (firstOf ns cs)) ≡ true → (a || (b || listed ns (firstOf ns cs))) ≡ true
+    go true b e = refl
+    go false true e = refl
+    go false false e = e
 
 -- every message, on every box, is answered with a number of the list
 pub numbered : (b : DisplayBox) (m : Message) → listed messageAnswers (numberOf (step b m .answer)) ≡ true
-numbered b m = in-list (numberOf (step b m .answer)) (below-7 b m)
+numbered b m = ap (listed messageAnswers) (checked b m) ∙ first-listed checks (conditions b m)
 
 -- 7 is the answer to a configuration only
 pub never-seven : (b : DisplayBox) (m : Message) → numberOf (step b m .answer) ≡ 7 → ⊥
-never-seven b m e = let h = below-7 b m in omega arith
+never-seven b m e = false-true (subst (λ (n : ℕ). listed messageAnswers n ≡ true) e (numbered b m))

@@ -20,6 +20,8 @@ use Rattle.sdcp_asks.specs.Asks as packetAsks
 use Rattle.sdcp.specs.Replies as packets
 use Rattle.sdcp_asks.specs.declared.Heard as packetHeard
 use Rattle.sdcp_asks.specs.declared.Heard.the-variants as packetIs
+use Rattle.sdcp_asks.proofs.Cast.{cast-heard}
+use Rattle.sdcp.proofs.Cast.{cast-carries}
 use Rattle.sdcp.specs.declared.Reply.the-variants.{Ok}
 use Rattle.kjw.specs.Replies as frames
 use Rattle.kjw.specs.Orders as frameOrders
@@ -79,7 +81,7 @@ obeyed {b} {m} {i} p o (by-tcp l area) e r =
     ∙ ap (λ (t : Turn WRecord). withW (panelAt i b) (t .after)) (told-order (length area) p o (panelAt i b .w) (has-room (on-link p) r) e)
 obeyed {b} {m} {i} p o by-udp e r =
     takes r
-    ∙ ap (λ (h : packetHeard.Heard). withW (panelAt i b) (packets.turned p h (panelAt i b .w) .after)) e
+    ∙ ap (withW (panelAt i b)) (cast-carries p o (panelAt i b .w) e)
 
 -- ---- any way in
 
@@ -94,14 +96,15 @@ Carried (udp m) p p′ = (o : wordOrder.Order) × (packetAsks.heardOf m ≡ pack
 -- to, a message that is answered 0 leaves the order that was understood carried out at every panel that it is addressed to
 pub accepted-stands : (b : DisplayBox) (m : Message) (i : ℕ) → step b m .answer ≡ Done → addressed (names b) m i ≡ true → Carried m (panelAt i b) (panelAt i (step b m .box))
 accepted-stands b (rs232c l m area) i d a =
-    let t = only-0 b (rs232c l m area) (ap numberOf d) .4 in
+    let t = only-0 b (rs232c l m area) (ap numberOf d) .5 in
     (t .0, t .1, t .2, serial-obeyed b i l (t .0) m area (t .1) (t .2) (done-reaches b (rs232c l m area) i d a))
 accepted-stands b (kjw l m area) i d a =
-    let t = only-0 b (kjw l m area) (ap numberOf d) .4 in
+    let t = only-0 b (kjw l m area) (ap numberOf d) .5 in
     (t .0, t .1, frame-obeyed b i l m area (t .0) (t .1) (done-reaches b (kjw l m area) i d a))
 accepted-stands b (tcp l m area) i d a =
-    let t = only-0 b (tcp l m area) (ap numberOf d) .4 in
+    let t = only-0 b (tcp l m area) (ap numberOf d) .5 in
     (t .0, t .1, obeyed m (t .0) (by-tcp l area) (t .1) (done-reaches b (tcp l m area) i d a))
 accepted-stands b (udp m) i d a =
-    let t = only-0 b (udp m) (ap numberOf d) .4 in
-    (t .0, t .1, obeyed m (t .0) by-udp (t .1) (done-reaches b (udp m) i d a))
+    let t = only-0 b (udp m) (ap numberOf d) .5 in
+    let h = cast-heard m (t .0) (t .1) in
+    (t .0, h, obeyed m (t .0) by-udp h (done-reaches b (udp m) i d a))

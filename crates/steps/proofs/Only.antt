@@ -1,14 +1,15 @@
 -- "each is given only when its stated condition holds": what an answer's number says of the box and the message, in words of the record and
 -- the bytes, and that no check before it applied. The answer is the number of the first condition that holds (`checked`).
-use Prim.Native.Nat.{ℕ, zero, suc, _+_, _%_, _<_, _≤_}
+use Prim.Native.Nat.{ℕ, zero, suc, _%_, _<_, _≤_}
 use mathlib.Core.Path.{_≡_, refl, sym, ap, _∙_}
-use mathlib.Core.Bool.{Bool, true, false, not, cond, _&&_, _||_}
+use mathlib.Core.Bool.{Bool, true, false, not, cond, _&&_, _||_, or-true}
 use mathlib.Core.List.{List, [], _∷_}
 use native.Mathlib.Omega.{arith}
 use lib.Dec.{eqb, ltb}
 use lib.ListN.{length, getD}
-use borrow.Author.Tests.{eqb-true, eqb-false, ltb-true, ltb-false, not-true, not-false, ne-eqb}
-use Rattle.laws.proofs.Conditions.{false-true}
+use borrow.Author.Tests.{eqb-true, eqb-false, eq-eqb, ltb-true, ltb-false, not-true, not-false, ne-eqb}
+use Rattle.laws.specs.Lists.{listed}
+use Rattle.laws.proofs.Conditions.{and-first, and-second, false-true}
 use Rattle.terms.specs.Answers.{numberOf}
 use Rattle.panels.specs.Records.{familyW, familyK}
 use Rattle.panels.specs.Valid.{valid}
@@ -21,16 +22,18 @@ use Rattle.rs232c_asks.specs.declared.Heard.the-variants as serialIs
 use Rattle.kjw_asks.specs.Asks as frameAsks
 use Rattle.kjw_sets.specs.declared.Order as frameOrder
 use Rattle.kjw_sets.specs.declared.Heard.the-variants as frameIs
+use Rattle.vmc_asks.specs.Asks.{asksStatus}
 use Rattle.sdcp_asks.specs.Asks as packetAsks
+use Rattle.sdcp_asks.proofs.Cast.{cast-plain}
 use Rattle.vmc_asks.specs.declared.Order as wordOrder
 use Rattle.sdcp_asks.specs.declared.Heard.the-variants as packetIs
 use Rattle.steps.specs.Messages.{Message, rs232c, kjw, tcp, udp, Name, nobody, names}
 use Rattle.steps.specs.Addressing.{target, isCalled, addressed, anyCalled}
-use Rattle.steps.specs.Step.{panelAt, step}
+use Rattle.steps.specs.Step.{checks, panelAt, step}
 use Rattle.steps.proofs.Door.{Lends, by-rs232c, by-kjw, by-tcp}
 use Rattle.steps.proofs.Refusals.{none-called, no-target}
 use Rattle.steps.proofs.Stays.{neither}
-use Rattle.steps.proofs.Judged.{firstFrom, serial-unclear, serial-clear, packet-unclear, packet-clear, frame-unclear, frame-clear}
+use Rattle.steps.proofs.Judged.{firstOf, serial-unclear, serial-clear, packet-unclear, packet-clear, frame-unclear, frame-clear}
 use Rattle.steps.proofs.Checks.{hasPanel, conditions, checked}
 
 -- ---- the stated conditions
@@ -86,26 +89,66 @@ Broken (kjw l m area) = ⊥
 Broken (tcp l m area) = packetAsks.isBroken m ≡ true
 Broken (udp m) = packetAsks.isBroken m ≡ true
 
+-- 8: document 02, §5, "came by UDP, and the trimmed data is STATget alone or begins with STATget and a space"
+abbrev pub Asking : Message → Type 0
+Asking (rs232c l m area) = ⊥
+Asking (kjw l m area) = ⊥
+Asking (tcp l m area) = ⊥
+Asking (udp m) = asksStatus (packetAsks.dataOf m) ≡ true
+
 -- 6: "contents not understood"
 abbrev pub Unclear : Message → Type 0
 Unclear (rs232c l m area) = (s : ℕ) × (serialAsks.heardOf m ≡ serialIs.NotUnderstood s)
 Unclear (kjw l m area) = frameAsks.heardOf m ≡ frameIs.NotUnderstood
 Unclear (tcp l m area) = packetAsks.heardOf m ≡ packetIs.NotUnderstood
-Unclear (udp m) = packetAsks.heardOf m ≡ packetIs.NotUnderstood
+Unclear (udp m) = packetAsks.castOf m ≡ packetIs.NotUnderstood
 
 -- 0: an order was understood
 abbrev pub Clear : Message → Type 0
 Clear (rs232c l m area) = (s : ℕ) × (o : serialOrder.Order) × (serialAsks.heardOf m ≡ serialIs.Understood s o)
 Clear (kjw l m area) = (o : frameOrder.Order) × (frameAsks.heardOf m ≡ frameIs.Understood o)
 Clear (tcp l m area) = (o : wordOrder.Order) × (packetAsks.heardOf m ≡ packetIs.Understood o)
-Clear (udp m) = (o : wordOrder.Order) × (packetAsks.heardOf m ≡ packetIs.Understood o)
+Clear (udp m) = (o : wordOrder.Order) × (packetAsks.castOf m ≡ packetIs.Understood o)
 
 -- ---- the first that holds
 
-before : (n : ℕ) (cs : List Bool) (j : ℕ) → 0 < j → j < n → firstFrom n cs ≡ j → ⊥
-before n [] j h k e = omega arith
-before n (true ∷ cs) j h k e = omega arith
-before n (false ∷ cs) j h k e = before (suc n) cs j h (omega arith) e
+-- no number is 0, and none stands twice
+abbrev single : List ℕ → Bool
+single [] = true
+single (n ∷ ns) = ltb 0 n && (not (listed ns n) && single ns)
+
+-- what `single` says of the first number and of the others
+record Alone (n : ℕ) (ns : List ℕ) : Type 0 where
+  above : 0 < n
+  once : listed ns n ≡ false
+  others : single ns ≡ true
+
+alone : (n : ℕ) (ns : List ℕ) → single (n ∷ ns) ≡ true → Alone n ns
+alone n ns e =
+    let r = and-second (ltb 0 n) (not (listed ns n) && single ns) e in
+    record {
+      above = ltb-true 0 n (and-first (ltb 0 n) (not (listed ns n) && single ns) e);
+      once = not-true (listed ns n) (and-first (not (listed ns n)) (single ns) r);
+      others = and-second (not (listed ns n)) (single ns) r;
+    }
+
+-- a number that is not among them is not given
+absent : (ns : List ℕ) (cs : List Bool) (n : ℕ) → 0 < n → listed ns n ≡ false → firstOf ns cs ≡ n → ⊥
+absent [] cs n h l e = omega arith
+absent (x ∷ ns) [] n h l e = omega arith
+absent (x ∷ ns) (true ∷ cs) n h l e = false-true (sym (neither (eqb n x) (listed ns n) l .0) ∙ eq-eqb n x (sym e))
+absent (x ∷ ns) (false ∷ cs) n h l e = absent ns cs n h (neither (eqb n x) (listed ns n) l .1) e
+
+-- a number at a place is among them, and not 0
+there-listed : (ns : List ℕ) (k : ℕ) → k < length ns → listed ns (getD ns k 0) ≡ true
+there-listed [] k h = absurd (omega arith)
+there-listed (n ∷ ns) zero h = rw (eq-eqb n n refl)
+there-listed (n ∷ ns) (suc k) h = rw (there-listed ns k (omega arith)) (or-true (eqb (getD ns k 0) n))
+
+there-above : (ns : List ℕ) (k : ℕ) → single ns ≡ true → k < length ns → 0 < getD ns k 0
+there-above [] k s h = absurd (omega arith)
+there-above (n ∷ ns) zero s h = alone n ns s .above
+there-above (n ∷ ns) (suc k) s h = there-above ns k (alone n ns s .others) (omega arith)
 
 -- the condition at place k holds, and none before it
 record Fires (cs : List Bool) (k : ℕ) : Type 0 where
@@ -119,23 +162,25 @@ later {cs} {k} t = record { holds = t .holds; none-before = go }
     go zero i = refl
     go (suc j) i = t .none-before j (omega arith)
 
-fires : (n : ℕ) (cs : List Bool) (k : ℕ) → 0 < n → firstFrom n cs ≡ n + k → Fires cs k
-fires n [] k h e = absurd (omega arith)
-fires n (true ∷ cs) zero h e = record { holds = refl; none-before = λ j i. absurd (omega arith) }
-fires n (true ∷ cs) (suc k) h e = absurd (omega arith)
-fires n (false ∷ cs) zero h e = absurd (before (suc n) cs n h (omega arith) (omega arith))
-fires n (false ∷ cs) (suc k) h e = later (fires (suc n) cs k (omega arith) (omega arith))
+fires : (ns : List ℕ) (cs : List Bool) (k : ℕ) → single ns ≡ true → k < length ns → firstOf ns cs ≡ getD ns k 0 → Fires cs k
+fires [] cs k s h e = absurd (omega arith)
+fires (n ∷ ns) [] k s h e = let z = there-above (n ∷ ns) k s h in absurd (omega (arith, z, e))
+fires (n ∷ ns) (true ∷ cs) zero s h e = record { holds = refl; none-before = λ j i. absurd (omega arith) }
+fires (n ∷ ns) (true ∷ cs) (suc k) s h e = absurd (false-true (sym (alone n ns s .once) ∙ ap (listed ns) e ∙ there-listed ns k (omega arith)))
+fires (n ∷ ns) (false ∷ cs) zero s h e = let a = alone n ns s in absurd (absent ns cs n (a .above) (a .once) e)
+fires (n ∷ ns) (false ∷ cs) (suc k) s h e = later (fires ns cs k (alone n ns s .others) (omega arith) e)
 
 -- none holds
-none : (n : ℕ) (cs : List Bool) → 0 < n → firstFrom n cs ≡ 0 → (j : ℕ) → getD cs j false ≡ false
-none n [] h e j = refl
-none n (true ∷ cs) h e j = absurd (omega arith)
-none n (false ∷ cs) h e zero = refl
-none n (false ∷ cs) h e (suc j) = none (suc n) cs (omega arith) e j
+none : (ns : List ℕ) (cs : List Bool) → single ns ≡ true → length cs ≤ length ns → firstOf ns cs ≡ 0 → (j : ℕ) → getD cs j false ≡ false
+none ns [] s h e j = refl
+none [] (c ∷ cs) s h e j = absurd (omega arith)
+none (n ∷ ns) (true ∷ cs) s h e j = let a = alone n ns s .above in absurd (omega (arith, a, e))
+none (n ∷ ns) (false ∷ cs) s h e zero = refl
+none (n ∷ ns) (false ∷ cs) s h e (suc j) = none ns cs (alone n ns s .others) (omega arith) e j
 
 -- ---- a condition says what it states
 
-uncalled : (m : List ℕ) (ns : List Name) → anyCalled m ns ≡ false → (i : ℕ) → isCalled m (getD ns i nobody) ≡ false
+pub uncalled : (m : List ℕ) (ns : List Name) → anyCalled m ns ≡ false → (i : ℕ) → isCalled m (getD ns i nobody) ≡ false
 unfolding isCalled
 uncalled m [] n i = refl
 uncalled m (x ∷ ns) n zero = neither (isCalled m x) (anyCalled m ns) n .0
@@ -239,58 +284,85 @@ module _ (b : DisplayBox) where
   whole (tcp l m area) e f = false-true (sym e ∙ f)
   whole (udp m) e f = false-true (sym e ∙ f)
 
-  unclear : (m : Message) → at m 5 ≡ true → Unclear m
-  unclear (rs232c l m area) e = serial-unclear m e
-  unclear (kjw l m area) e = frame-unclear m e
-  unclear (tcp l m area) e = packet-unclear m e
-  unclear (udp m) e = packet-unclear m e
+  asking : (m : Message) → at m 5 ≡ true → Asking m
+  asking (rs232c l m area) e = false-true e
+  asking (kjw l m area) e = false-true e
+  asking (tcp l m area) e = false-true e
+  asking (udp m) e = e
+
+  not-asking : (m : Message) → at m 5 ≡ false → Asking m → ⊥
+  not-asking (rs232c l m area) e f = f
+  not-asking (kjw l m area) e f = f
+  not-asking (tcp l m area) e f = f
+  not-asking (udp m) e f = false-true (sym e ∙ f)
+
+  unclear : (m : Message) → at m 5 ≡ false → at m 6 ≡ true → Unclear m
+  unclear (rs232c l m area) a e = serial-unclear m e
+  unclear (kjw l m area) a e = frame-unclear m e
+  unclear (tcp l m area) a e = packet-unclear m e
+  unclear (udp m) a e = cast-plain m a ∙ packet-unclear m e
 
   is-ours : (m : List ℕ) (none : Bool) → (not (packetAsks.isOurs m) || none) ≡ false → packetAsks.isOurs m ≡ true
   is-ours m none e = not-false (packetAsks.isOurs m) (neither (not (packetAsks.isOurs m)) none e .0)
 
   clear : (m : Message) → ((j : ℕ) → at m j ≡ false) → Clear m
-  clear (rs232c l m area) n = serial-clear m (n 2) (n 3) (n 4) (n 5)
-  clear (kjw l m area) n = frame-clear m (not-false (eqb (length m) 24) (n 2)) (not-false (frameAsks.isOurs m) (n 3)) (n 5)
-  clear (tcp l m area) n = packet-clear m (n 2) (is-ours m (eqb (target (names b) (tcp l m area)) 0) (n 3)) (n 4) (n 5)
-  clear (udp m) n = packet-clear m (n 2) (is-ours m (not (anyCalled m (names b))) (n 3)) (n 4) (n 5)
+  clear (rs232c l m area) n = serial-clear m (n 2) (n 3) (n 4) (n 6)
+  clear (kjw l m area) n = frame-clear m (not-false (eqb (length m) 24) (n 2)) (not-false (frameAsks.isOurs m) (n 3)) (n 6)
+  clear (tcp l m area) n = packet-clear m (n 2) (is-ours m (eqb (target (names b) (tcp l m area)) 0) (n 3)) (n 4) (n 6)
+  clear (udp m) n =
+      let t = packet-clear m (n 2) (is-ours m (not (anyCalled m (names b))) (n 3)) (n 4) (n 6) in
+      (t .0, cast-plain m (n 5) ∙ t .1)
 
-  fired : (m : Message) (k : ℕ) → numberOf (step b m .answer) ≡ 1 + k → Fires (conditions b m) k
-  fired m k e = fires 1 (conditions b m) k (omega arith) (sym (checked b m) ∙ e)
+  fired : (m : Message) (k : ℕ) → k < length checks → numberOf (step b m .answer) ≡ getD checks k 0 → Fires (conditions b m) k
+  fired m k h e = fires checks (conditions b m) k refl h (sym (checked b m) ∙ e)
+
+  each-checked : (m : Message) → length (conditions b m) ≤ length checks
+  each-checked (rs232c l m area) = omega arith
+  each-checked (kjw l m area) = omega arith
+  each-checked (tcp l m area) = omega arith
+  each-checked (udp m) = omega arith
 
 -- ---- each answer, of every box and every message
 
 module _ (b : DisplayBox) (m : Message) where
   pub only-1 : numberOf (step b m .answer) ≡ 1 → Small m
-  only-1 e = small b m (fired b m 0 e .holds)
+  only-1 e = small b m (fired b m 0 (omega arith) e .holds)
 
   pub only-2 : numberOf (step b m .answer) ≡ 2 → NoPanel b m
-  only-2 e = let t = fired b m 1 e in no-panel-here b m (t .none-before 0 (omega arith)) (t .holds)
+  only-2 e = let t = fired b m 1 (omega arith) e in no-panel-here b m (t .none-before 0 (omega arith)) (t .holds)
 
   pub only-3 : numberOf (step b m .answer) ≡ 3 → LetIn b m × BadLength m
-  only-3 e = let t = fired b m 2 e in (let-in b m (t .none-before 0 (omega arith)) (t .none-before 1 (omega arith)), bad-length b m (t .holds))
+  only-3 e = let t = fired b m 2 (omega arith) e in (let-in b m (t .none-before 0 (omega arith)) (t .none-before 1 (omega arith)), bad-length b m (t .holds))
 
   pub only-4 : numberOf (step b m .answer) ≡ 4 → LetIn b m × (BadLength m → ⊥) × Foreign b m
   only-4 e =
-      let t = fired b m 3 e in
+      let t = fired b m 3 (omega arith) e in
       let n = t .none-before in
       (let-in b m (n 0 (omega arith)) (n 1 (omega arith)), long b m (n 2 (omega arith)), foreign b m (t .holds))
 
   pub only-5 : numberOf (step b m .answer) ≡ 5 → LetIn b m × (BadLength m → ⊥) × (Foreign b m → ⊥) × Broken m
   only-5 e =
-      let t = fired b m 4 e in
+      let t = fired b m 4 (omega arith) e in
       let n = t .none-before in
       (let-in b m (n 0 (omega arith)) (n 1 (omega arith)), long b m (n 2 (omega arith)), for-us b m (n 3 (omega arith)), broken b m (t .holds))
 
-  pub only-6 : numberOf (step b m .answer) ≡ 6 → LetIn b m × (BadLength m → ⊥) × (Foreign b m → ⊥) × (Broken m → ⊥) × Unclear m
-  only-6 e =
-      let t = fired b m 5 e in
+  pub only-8 : numberOf (step b m .answer) ≡ 8 → LetIn b m × (BadLength m → ⊥) × (Foreign b m → ⊥) × (Broken m → ⊥) × Asking m
+  only-8 e =
+      let t = fired b m 5 (omega arith) e in
       let n = t .none-before in
-      (let-in b m (n 0 (omega arith)) (n 1 (omega arith)), long b m (n 2 (omega arith)), for-us b m (n 3 (omega arith)), whole b m (n 4 (omega arith)), unclear b m (t .holds))
+      (let-in b m (n 0 (omega arith)) (n 1 (omega arith)), long b m (n 2 (omega arith)), for-us b m (n 3 (omega arith)), whole b m (n 4 (omega arith)), asking b m (t .holds))
 
-  pub only-0 : numberOf (step b m .answer) ≡ 0 → LetIn b m × (BadLength m → ⊥) × (Foreign b m → ⊥) × (Broken m → ⊥) × Clear m
+  pub only-6 : numberOf (step b m .answer) ≡ 6 → LetIn b m × (BadLength m → ⊥) × (Foreign b m → ⊥) × (Broken m → ⊥) × (Asking m → ⊥) × Unclear m
+  only-6 e =
+      let t = fired b m 6 (omega arith) e in
+      let n = t .none-before in
+      let a = n 5 (omega arith) in
+      (let-in b m (n 0 (omega arith)) (n 1 (omega arith)), long b m (n 2 (omega arith)), for-us b m (n 3 (omega arith)), whole b m (n 4 (omega arith)), not-asking b m a, unclear b m a (t .holds))
+
+  pub only-0 : numberOf (step b m .answer) ≡ 0 → LetIn b m × (BadLength m → ⊥) × (Foreign b m → ⊥) × (Broken m → ⊥) × (Asking m → ⊥) × Clear m
   only-0 e =
-      let n = none 1 (conditions b m) (omega arith) (sym (checked b m) ∙ e) in
-      (let-in b m (n 0) (n 1), long b m (n 2), for-us b m (n 3), whole b m (n 4), clear b m n)
+      let n = none checks (conditions b m) refl (each-checked b m) (sym (checked b m) ∙ e) in
+      (let-in b m (n 0) (n 1), long b m (n 2), for-us b m (n 3), whole b m (n 4), not-asking b m (n 5), clear b m n)
 
 -- ---- a configuration
 

@@ -52,7 +52,7 @@ openedFrames m k = frames.turnOf m k
 
 -- SDCP and VMC
 unfoldable openedPackets : List ℕ → WRecord → Turn WRecord
-unfolding number inBytes isDigit decimal leadsZero isNumeral upTo inDigits numeral namedBy ledBy chosenBy unterminated unspaced trimmed wordAsks.readData wordAsks.readWords wordAsks.readSet wordAsks.readGet wordAsks.valueOrder wordAsks.shiftOrder words.carried words.saysOf textOf setWords valueWords packetAsks.isOurs packetAsks.isBroken packetAsks.heardOf packets.packetOf packets.bytesOf packets.turned
+unfolding number inBytes isDigit decimal leadsZero isNumeral upTo inDigits numeral namedBy ledBy chosenBy unterminated unspaced trimmed wordAsks.isQuestion wordAsks.asksStatus wordAsks.readData wordAsks.readWords wordAsks.readSet wordAsks.readGet wordAsks.valueOrder wordAsks.shiftOrder words.carried words.saysOf textOf setWords valueWords packetAsks.isOurs packetAsks.isBroken packetAsks.heardOf packetAsks.castOf packets.packetOf packets.bytesOf packets.turned
 openedPackets m w = packets.turnOf m w
 
 -- the step

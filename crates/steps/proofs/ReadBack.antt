@@ -30,7 +30,8 @@ use Rattle.sdcp_asks.specs.Asks.{dataOf, heardOf}
 use Rattle.sdcp_asks.specs.declared.Heard.the-variants.{Understood}
 use Rattle.steps.specs.Messages.{Message, aW, aK, nobody, isW, nameOf, tcp}
 use Rattle.steps.specs.Step.{panelAt}
-use Rattle.steps.proofs.AskedBack.{Tells, asked, heard-words}
+use Rattle.sdcp.proofs.Cast.{heard-words}
+use Rattle.steps.proofs.AskedBack.{Tells, asked}
 use Rattle.steps.proofs.Shapes.{runFrom, shaped}
 use Rattle.steps.proofs.Turns.{Reaches, reaches-inside}
 use Rattle.steps.proofs.Validity.{reached-valid, its-own}

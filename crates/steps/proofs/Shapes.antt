@@ -33,7 +33,7 @@ use Rattle.rs232c_asks.specs.declared.Heard as serialHeard
 use Rattle.rs232c_asks.specs.declared.Heard.the-variants as serialIs
 use Rattle.rs232c_asks.specs.declared.Order as serialOrder
 use Rattle.rs232c_asks.specs.declared.Order.the-variants.{Config, Select, Levels, Sense, Remote}
-use Rattle.sdcp_asks.specs.Asks.{heardOf}
+use Rattle.sdcp_asks.specs.Asks.{heardOf, castOf}
 use Rattle.sdcp.specs.Replies as packets
 use Rattle.sdcp_asks.specs.declared.Heard as packetHeard
 use Rattle.sdcp_asks.specs.declared.Heard.the-variants as packetIs
@@ -107,7 +107,7 @@ unfolding turn
 turn-shaped (rs232c l m area) p s = behind (λ (t : Turn WRecord). Shaped (t .after)) (length area) (serial.turnOf m) (p .w) s (serial-turned (serialAsks.heardOf m) (serialAsks.valuesOf m) (p .w) s)
 turn-shaped (kjw l m area) p s = s
 turn-shaped (tcp l m area) p s = behind (λ (t : Turn WRecord). Shaped (t .after)) (length area) (packets.turnOf m) (p .w) s (packet-turned m (heardOf m) (p .w) s)
-turn-shaped (udp m) p s = packet-turned m (heardOf m) (p .w) s
+turn-shaped (udp m) p s = packet-turned m (castOf m) (p .w) s
 
 -- ---- and so do runs
 

@@ -33,6 +33,7 @@ use Rattle.sdcp.specs.Replies as packets
 use Rattle.sdcp_asks.specs.declared.Heard as packetHeard
 use Rattle.sdcp_asks.specs.declared.Heard.the-variants as packetIs
 use Rattle.sdcp.proofs.Refusals as packetRefusals
+use Rattle.sdcp.proofs.Cast as packetCast
 use Rattle.sdcp.proofs.Validity as packetValidity
 use Rattle.steps.specs.Messages.{Message, rs232c, kjw, tcp, udp, nameOf}
 use Rattle.steps.specs.Step.{withW, withK, turn}
@@ -141,5 +142,5 @@ sound (tcp l m area) p =
     turn-with-w p _ (packetValidity.stays-valid (length area) m (p .w)) (packetRefusals.refusal-leaves (length area) m (p .w))
     (quiet (length area) (packets.turnOf m) (p .w) (packet-heard m (packetAsks.heardOf m) (p .w)))
 sound (udp m) p =
-    turn-with-w p _ (packetValidity.turned-valid m (p .w)) (packetRefusals.turn-leaves m (packetAsks.heardOf m) (p .w))
-    (packet-heard m (packetAsks.heardOf m) (p .w))
+    turn-with-w p _ (packetCast.cast-valid m (p .w)) (packetRefusals.turn-leaves m (packetAsks.castOf m) (p .w))
+    (packet-heard m (packetAsks.castOf m) (p .w))

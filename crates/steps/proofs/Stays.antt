@@ -22,7 +22,7 @@ use Rattle.kjw_values.specs.Values.{valueOf}
 use Rattle.kjw_asks.specs.Asks as frameAsks
 use Rattle.kjw_sets.specs.declared.State.{State}
 use Rattle.kjw.proofs.Stays as frameStays
-use Rattle.sdcp_asks.specs.Asks.{heardOf}
+use Rattle.sdcp_asks.specs.Asks.{heardOf, castOf}
 use Rattle.sdcp.specs.Replies as packets
 use Rattle.sdcp_asks.specs.declared.Heard.{Heard}
 use Rattle.sdcp_asks.specs.declared.Heard.the-variants.{Refused, Broken, NotUnderstood, Understood}
@@ -44,7 +44,7 @@ abbrev pub sets : Message → ℕ → Bool
 sets (rs232c l m area) j = false
 sets (kjw l m area) j = false
 sets (tcp l m area) j = ordersIt (heardOf m) j
-sets (udp m) j = ordersIt (heardOf m) j
+sets (udp m) j = ordersIt (castOf m) j
 
 -- a message that may change a panel's connectors and preset, or its white balance: RS-232C with the codes 21h and 22h, or 40h
 abbrev pub bears : ℕ → Message → Bool
@@ -93,7 +93,7 @@ turn-told (rs232c l m area) p j n =
     same-told j (p .w) (taken (length area) (serial.turnOf m) (p .w) .after) (s .settings-stay) (s .shifts-stay)
 turn-told (kjw l m area) p j n = refl
 turn-told (tcp l m area) p j n = packet-left (length area) m (p .w) .told-stays j n
-turn-told (udp m) p j n = turned-left m (heardOf m) (p .w) .told-stays j n
+turn-told (udp m) p j n = turned-left m (castOf m) (p .w) .told-stays j n
 
 -- whatever the box, the message and the place: what STATget tells of name j stays, but for an order that sets it
 pub told-stays : (b : DisplayBox) (m : Message) (i j : ℕ) → sets m j ≡ false → saysOf (Get j) (panelAt i (step b m .box) .w) ≡ saysOf (Get j) (panelAt i b .w)
@@ -104,7 +104,7 @@ unfolding turn
 turn-inputs (rs232c l m area) p n n′ = serialStays.stays (length area) m (p .w) .inputs-stay (eqb-false (getD m 4 0) 0x21 n) (eqb-false (getD m 4 0) 0x22 n′)
 turn-inputs (kjw l m area) p n n′ = refl
 turn-inputs (tcp l m area) p n n′ = packet-left (length area) m (p .w) .inputs-stay
-turn-inputs (udp m) p n n′ = turned-left m (heardOf m) (p .w) .inputs-stay
+turn-inputs (udp m) p n n′ = turned-left m (castOf m) (p .w) .inputs-stay
 
 -- the connectors and the preset stay, but for 21h and 22h
 pub inputs-stay : (b : DisplayBox) (m : Message) (i : ℕ) → bears 0x21 m ≡ false → bears 0x22 m ≡ false → panelAt i (step b m .box) .w .inputs ≡ panelAt i b .w .inputs
@@ -115,7 +115,7 @@ unfolding turn
 turn-balance (rs232c l m area) p n = serialStays.stays (length area) m (p .w) .balance-stays (eqb-false (getD m 4 0) 0x40 n)
 turn-balance (kjw l m area) p n = refl
 turn-balance (tcp l m area) p n = packet-left (length area) m (p .w) .balance-stays
-turn-balance (udp m) p n = turned-left m (heardOf m) (p .w) .balance-stays
+turn-balance (udp m) p n = turned-left m (castOf m) (p .w) .balance-stays
 
 -- the white balance stays, but for 40h
 pub balance-stays : (b : DisplayBox) (m : Message) (i : ℕ) → bears 0x40 m ≡ false → panelAt i (step b m .box) .w .balance ≡ panelAt i b .w .balance

@@ -16,7 +16,7 @@ use Rattle.panels.specs.Records.{pastEnd}
 use Rattle.panels.specs.Valid.{inUse, valid}
 use Rattle.panels.specs.declared.Panel.{Panel}
 use Rattle.panels.specs.declared.DisplayBox.{DisplayBox}
-use Rattle.sdcp_asks.specs.Asks.{heardOf}
+use Rattle.sdcp_asks.specs.Asks.{castOf}
 use Rattle.sdcp.proofs.Refusals.{turned-answer}
 use Rattle.steps.specs.Messages.{Message, Name, nobody, nameOf, names}
 use Rattle.steps.specs.Addressing.{target, addressed}
@@ -143,7 +143,7 @@ unfolding turn
 own-answer ns b m i =
     by-way (λ (x : Message). addressed ns x i ≡ true → answerTo ns b x ≡ turn x (panelAt i b) .answer)
     (λ l area x k a. link-answer ns b k ∙ ap (λ (t : Turn Panel). t .answer) (own-turn ns b i k a))
-    (λ x a. sym (turned-answer x (heardOf x) (panelAt i b .w))) m
+    (λ x a. sym (turned-answer x (castOf x) (panelAt i b .w))) m
 
 -- and what goes back is its reply: by UDP nothing does
 pub own-back : (ns : List Name) (b : DisplayBox) (m : Message) (i : ℕ) → addressed ns m i ≡ true → back m (ownTurn ns b m .reply) ≡ back m (turn m (panelAt i b) .reply)

@@ -1,4 +1,4 @@
--- Document 01, "Answer numbers" and the forms: the one step, what a message does to a box.
+-- Document 01, "Answer numbers" and the forms, and document 02, §5: the one step, what a message does to a box.
 use Prim.Native.Nat.{ℕ, _-_}
 use mathlib.Core.Bool.{Bool, cond}
 use mathlib.Core.List.{List, [], _∷_}
@@ -17,7 +17,7 @@ use Rattle.panels.specs.declared.KRecord.{KRecord}
 use Rattle.panels.specs.declared.DisplayBox.{DisplayBox}
 use Rattle.rs232c.specs.Replies as serial
 use Rattle.kjw.specs.Replies as frames
-use Rattle.sdcp_asks.specs.Asks.{heardOf}
+use Rattle.sdcp_asks.specs.Asks.{castOf}
 use Rattle.sdcp.specs.Replies as packets
 use Rattle.steps.specs.Messages.{Message, rs232c, kjw, tcp, udp, Name, names, onLink, isW, isK}
 use Rattle.steps.specs.Addressing.{target, addressed, anyCalled}
@@ -31,9 +31,13 @@ withK p k = record { family = p .family; group = p .group; unit = p .unit; spare
 abbrev pub withPanels : DisplayBox → List Panel → DisplayBox
 withPanels b ps = record { count = b .count; panels = ps }
 
+-- "Checks run in the order of the numbers", and document 02, §5, "8, after 5 and before 6": the numbers in the order of their checks
+abbrev pub checks : List ℕ
+checks = 1 ∷ 2 ∷ 3 ∷ 4 ∷ 5 ∷ 8 ∷ 6 ∷ []
+
 -- the numbers that a message can be answered with: 7 is for a configuration alone
 abbrev pub messageAnswers : List ℕ
-messageAnswers = 0 ∷ 1 ∷ 2 ∷ 3 ∷ 4 ∷ 5 ∷ 6 ∷ []
+messageAnswers = 0 ∷ checks
 
 -- ---- checks 1 and 2, and 3 or 4 where nobody is addressed, from the names and the message alone; Done where they are passed
 
@@ -59,7 +63,7 @@ unfoldable pub turn : Message → Panel → Turn Panel
 turn (rs232c l m area) p = turnWith (withW p) (taken (length area) (serial.turnOf m) (p .w))
 turn (kjw l m area) p = turnWith (withK p) (taken (length area) (frames.turnOf m) (p .k))
 turn (tcp l m area) p = turnWith (withW p) (taken (length area) (packets.turnOf m) (p .w))
-turn (udp m) p = turnWith (withW p) (packets.turnOf m (p .w))
+turn (udp m) p = turnWith (withW p) (packets.castTurnOf m (p .w))
 
 -- ---- the step
 
@@ -98,7 +102,7 @@ abbrev pub answerTo : List Name → DisplayBox → Message → Answer
 answerTo ns b (rs232c l m area) = ownTurn ns b (rs232c l m area) .answer
 answerTo ns b (kjw l m area) = ownTurn ns b (kjw l m area) .answer
 answerTo ns b (tcp l m area) = ownTurn ns b (tcp l m area) .answer
-answerTo ns b (udp m) = packets.answerOf (heardOf m)
+answerTo ns b (udp m) = packets.answerOf (castOf m)
 
 abbrev pub passed : List Name → DisplayBox → Message → Outcome
 passed ns b m = record {

@@ -8,11 +8,11 @@ use lib.Dec.{T, ltb}
 use borrow.Author.Tests.{ltb-true}
 use Rattle.terms.specs.Answers.{numberOf}
 use Rattle.terms.specs.declared.Answer.{Answer}
-use Rattle.terms.specs.declared.Answer.the-variants.{Done, AreaTooSmall, NoSuchPanel, WrongLength, NotForUs, EnvelopeWrong, NotUnderstood, BadConfiguration}
+use Rattle.terms.specs.declared.Answer.the-variants.{Done, AreaTooSmall, NoSuchPanel, WrongLength, NotForUs, EnvelopeWrong, NotUnderstood, BadConfiguration, StatusByBroadcast}
 
 -- the answers in the order of their numbers
 abbrev pub answers : List Answer
-answers = Done ∷ AreaTooSmall ∷ NoSuchPanel ∷ WrongLength ∷ NotForUs ∷ EnvelopeWrong ∷ NotUnderstood ∷ BadConfiguration ∷ []
+answers = Done ∷ AreaTooSmall ∷ NoSuchPanel ∷ WrongLength ∷ NotForUs ∷ EnvelopeWrong ∷ NotUnderstood ∷ BadConfiguration ∷ StatusByBroadcast ∷ []
 
 answerOf : ℕ → Answer
 answerOf n = getD answers n Done
@@ -27,6 +27,7 @@ back NotForUs = refl
 back EnvelopeWrong = refl
 back NotUnderstood = refl
 back BadConfiguration = refl
+back StatusByBroadcast = refl
 
 pub number-tells : (a b : Answer) → numberOf a ≡ numberOf b → a ≡ b
 number-tells a b e = sym (back a) ∙ ap answerOf e ∙ back b

@@ -1,7 +1,7 @@
--- Document 01, "Answer numbers": the number of each answer.
+-- Document 01, "Answer numbers", and document 02, §5: the number of each answer.
 use Prim.Native.Nat.{ℕ}
 use Rattle.terms.specs.declared.Answer.{Answer}
-use Rattle.terms.specs.declared.Answer.the-variants.{Done, AreaTooSmall, NoSuchPanel, WrongLength, NotForUs, EnvelopeWrong, NotUnderstood, BadConfiguration}
+use Rattle.terms.specs.declared.Answer.the-variants.{Done, AreaTooSmall, NoSuchPanel, WrongLength, NotForUs, EnvelopeWrong, NotUnderstood, BadConfiguration, StatusByBroadcast}
 
 abbrev pub numberOf : Answer → ℕ
 numberOf Done = 0
@@ -12,3 +12,4 @@ numberOf NotForUs = 4
 numberOf EnvelopeWrong = 5
 numberOf NotUnderstood = 6
 numberOf BadConfiguration = 7
+numberOf StatusByBroadcast = 8

@@ -21,6 +21,8 @@ pub enum Answer {
     NotUnderstood,
     // 7 configuration breaks a rule of the first section
     BadConfiguration,
+    // 8 a status asked for by UDP (document 02, §5)
+    StatusByBroadcast,
 }
 
 // The answer's number.
@@ -36,6 +38,7 @@ pub fn answer_number(a: Answer) -> u8
         Answer::EnvelopeWrong => 5,
         Answer::NotUnderstood => 6,
         Answer::BadConfiguration => 7,
+        Answer::StatusByBroadcast => 8,
     }
 }
 

@@ -6,7 +6,7 @@ use mathlib.Core.List.{List, [], _∷_, _++_, append-assoc, append-nil}
 use native.Mathlib.Omega.{arith}
 use lib.Dec.{eqb}
 use lib.ListN.{length, take, replicate, length-append}
-use lib.Seq.{take-append-seam, append-snoc}
+use lib.Seq.{take-append-seam, append-snoc, length-take-le}
 use borrow.Author.Tests.{eqb-true}
 use Rattle.laws.proofs.Conditions.{false-true}
 use Rattle.trimming.specs.Trimming.{unterminated, inFront, unspaced, trimmed}
@@ -94,6 +94,13 @@ unterminated-front d = go d (unterminated-from d)
 pub ended-front : (t d : List ℕ) → Ended t d → Front t d
 ended-front t _ (bare n) = before t (replicate n 0x20)
 ended-front t _ (terminated n) = subst (Front t) (sym (append-assoc t (replicate n 0x20) (0x00 ∷ []))) (before t (replicate n 0x20 ++ (0x00 ∷ [])))
+
+-- so many bytes of the data's front are what is left
+pub left-length : (d : List ℕ) (n : ℕ) → n ≡ length (trimmed d) → n ≡ length (take n d)
+left-length d n e = let h = ended-front (trimmed d) d (trimmed-from d) .fits in sym (length-take-le n d (omega (arith, h, e)))
+
+pub left-front : (d : List ℕ) (n : ℕ) → n ≡ length (trimmed d) → take n d ≡ trimmed d
+left-front d n e = ap (λ (k : ℕ). take k d) e ∙ ended-front (trimmed d) d (trimmed-from d) .front
 
 -- ---- such an end is taken off whole
 

@@ -6,4 +6,5 @@ pub mod Flip
 pub mod Validity
 pub mod Only
 pub mod Plain
+pub mod Questions
 pub mod Stays

@@ -1,6 +1,6 @@
--- Document 01, "SDCP and VMC", and document 02, §2: what the words of the data ask.
+-- Document 01, "SDCP and VMC", and document 02, §2 and §5: what the words of the data ask.
 use Prim.Native.Nat.{ℕ, zero, suc, _-_}
-use mathlib.Core.Bool.{Bool, true, false, cond, _&&_}
+use mathlib.Core.Bool.{Bool, true, false, cond, _&&_, _||_}
 use mathlib.Core.List.{List}
 use lib.ListN.{length, drop}
 use lib.Dec.{leb, ltb}
@@ -79,3 +79,11 @@ readWords d =
 -- Document 02, §2: "Before words are split", the string's end is taken off
 unfoldable pub readData : List ℕ → Words
 readData d = readWords (trimmed d)
+
+-- Document 02, §5: "STATget alone or begins with STATget and a space"
+unfoldable pub isQuestion : List ℕ → Bool
+isQuestion s = same s (ascii "STATget") || begins (ascii "STATget ") s
+
+-- "the trimmed data is STATget alone or begins with STATget and a space"
+unfoldable pub asksStatus : List ℕ → Bool
+asksStatus d = isQuestion (trimmed d)

@@ -1,4 +1,4 @@
-// VMC: what the words of a packet's data ask, whatever the panel (document 01, "SDCP and VMC"; document 02, §2).
+// VMC: what the words of a packet's data ask, whatever the panel (document 01, "SDCP and VMC"; document 02, §2 and §5).
 use decimals::Number;
 use decimals::plain_number;
 use octets::begins_with;
@@ -17,7 +17,7 @@ ghost use mathlib.Core.Path.{_≡_};
 ghost use Prim.Native.Nat.{_≤_};
 ghost use Rattle.settings.specs.Table.{mostShift};
 ghost use Rattle.setting_words.specs.Names.{chosenBy};
-ghost use Rattle.vmc_asks.specs.Asks.{levelOf, signed, levelOrder, choiceOrder, shiftBy, shiftOrder, valueOrder, readSet, readGet, readWords, readData};
+ghost use Rattle.vmc_asks.specs.Asks.{levelOf, signed, levelOrder, choiceOrder, shiftBy, shiftOrder, valueOrder, readSet, readGet, readWords, readData, isQuestion, asksStatus};
 
 // What the words order or ask. The number is the name's: 0 to 20 are the settings, 21 and 22 SHIFTH and SHIFTV.
 pub enum Order {
@@ -159,4 +159,22 @@ pub fn read_data(d: &[u8]) -> Words
 {
     let n = trimmed_length(d);
     read_words(&d[..n])
+}
+
+// "STATget alone or begins with STATget and a space", whatever follows.
+fn is_question(s: &[u8]) -> bool
+    ensures { λ r. ⌜ r ≡ isQuestion (now (s .entry)) ⌝ }
+{
+    if same_bytes(s, b"STATget") {
+        return true;
+    }
+    begins_with(s, b"STATget ")
+}
+
+// Whether the data asks for a status, known or not: its words, without the end of their string.
+pub fn asks_status(d: &[u8]) -> bool
+    ensures { λ r. ⌜ r ≡ asksStatus (now (d .entry)) ⌝ }
+{
+    let n = trimmed_length(d);
+    is_question(&d[..n])
 }

@@ -14,7 +14,7 @@ use Rattle.panels.specs.declared.Panel.{Panel}
 use Rattle.panels.specs.declared.DisplayBox.{DisplayBox}
 use Rattle.vmc.specs.Orders.{carried}
 use Rattle.vmc_asks.specs.declared.Order.{Order}
-use Rattle.sdcp_asks.specs.Asks.{heardOf}
+use Rattle.sdcp_asks.specs.Asks.{castOf}
 use Rattle.sdcp.specs.Replies.{answerOf, turned}
 use Rattle.sdcp_asks.specs.declared.Heard.{Heard}
 use Rattle.sdcp_asks.specs.declared.Heard.the-variants.{Refused, Broken, NotUnderstood, Understood}
@@ -45,12 +45,12 @@ idle-turn m _ p (refusing a) = refl
 idle-turn m _ p broken = refl
 idle-turn m _ p strange = refl
 
-pub idle : (b : DisplayBox) (m : List ℕ) (h : Heard) → anyCalled m (names b) ≡ true → heardOf m ≡ h → Idle h → step b (udp m) ≡ record { box = b; answer = answerOf h; back = nothing }
+pub idle : (b : DisplayBox) (m : List ℕ) (h : Heard) → anyCalled m (names b) ≡ true → castOf m ≡ h → Idle h → step b (udp m) ≡ record { box = b; answer = answerOf h; back = nothing }
 unfolding turn
 idle b m h e q i =
     let s : each (addressed (names b) (udp m)) (λ (p : Panel). turn (udp m) p .after) (b .panels) ≡ b .panels = each-same (addressed (names b) (udp m)) (λ (p : Panel). turn (udp m) p .after) (b .panels) (λ p. ap (λ (x : Heard). withW p (turned m x (p .w) .after)) q ∙ idle-turn m h p i) in
     called b m e
-    ∙ ap (λ (ps : List Panel). record { box = withPanels b ps; answer = answerOf (heardOf m); back = nothing }) s
+    ∙ ap (λ (ps : List Panel). record { box = withPanels b ps; answer = answerOf (castOf m); back = nothing }) s
     ∙ ap (λ (x : Heard). record { box = b; answer = answerOf x; back = nothing }) q
 
 -- turns that are the same give the same panels
@@ -59,7 +59,7 @@ same [] called f g e = refl
 same (p ∷ ps) called f g e = rw (e p, same ps (λ (i : ℕ). called (suc i)) f g e)
 
 -- an order: those of the first panels that are called carry it out
-pub obeyed : (b : DisplayBox) (m : List ℕ) (o : Order) → valid b ≡ true → anyCalled m (names b) ≡ true → heardOf m ≡ Understood o → step b (udp m) ≡ record { box = withPanels b (firstEach (heeded m o) (b .count) (b .panels)); answer = Done; back = nothing }
+pub obeyed : (b : DisplayBox) (m : List ℕ) (o : Order) → valid b ≡ true → anyCalled m (names b) ≡ true → castOf m ≡ Understood o → step b (udp m) ≡ record { box = withPanels b (firstEach (heeded m o) (b .count) (b .panels)); answer = Done; back = nothing }
 unfolding turn turned addressed isCalled heeded
 obeyed b m o v e q =
     let f : (p : Panel) → turn (udp m) p .after ≡ withW p (carried o (p .w)) = λ p. ap (λ (x : Heard). withW p (turned m x (p .w) .after)) q in
@@ -68,5 +68,5 @@ obeyed b m o v e q =
     ∙ ap (λ (ns : List Name). each (λ (i : ℕ). isCalled m (getD ns i nobody)) (λ (p : Panel). withW p (carried o (p .w))) (b .panels)) (valid-names b v)
     ∙ first-called nameOf (isCalled m) nobody (λ (p : Panel). withW p (carried o (p .w))) refl (b .count) (b .panels) in
     called b m e
-    ∙ ap (λ (ps : List Panel). record { box = withPanels b ps; answer = answerOf (heardOf m); back = nothing }) s
+    ∙ ap (λ (ps : List Panel). record { box = withPanels b ps; answer = answerOf (castOf m); back = nothing }) s
     ∙ ap (λ (x : Heard). record { box = withPanels b (firstEach (heeded m o) (b .count) (b .panels)); answer = answerOf x; back = nothing }) q

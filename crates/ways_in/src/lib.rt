@@ -11,7 +11,7 @@ use panels::DisplayBox;
 use panels::Panel;
 use sdcp::take_packet;
 use sdcp_asks::Heard;
-use sdcp_asks::hear;
+use sdcp_asks::hear_cast;
 use terms::Answer;
 use terms::answer_number;
 use vmc::obey;
@@ -221,7 +221,7 @@ fn take_udp(b: DisplayBox, m: &[u8]) -> Outcome
     if !any_called(m, ids) {
         return refused(b, to_nobody(m));
     }
-    match hear(m) {
+    match hear_cast(m) {
         Heard::Refused(answer) => refused(b, answer),
         Heard::Broken => refused(b, Answer::EnvelopeWrong),
         Heard::NotUnderstood => refused(b, Answer::NotUnderstood),

@@ -14,7 +14,7 @@ use Rattle.steps.specs.Messages.{udp, names}
 use Rattle.steps.specs.Addressing.{anyCalled}
 use Rattle.steps.specs.Step.{withPanels, toNobody, nothing, step}
 use Rattle.steps.proofs.Door.{nobody-shut}
-use Rattle.sdcp_asks.proofs.Refusals.{refused-undone}
+use Rattle.sdcp_asks.proofs.Refusals.{cast-undone}
 use Rattle.ways_in.specs.Promise.{Steps}
 use Rattle.ways_in.specs.Turns.{resting}
 use Rattle.ways_in.specs.declared.Outcome.{Outcome}
@@ -57,8 +57,8 @@ returns c =
     let n : anyCalled (a .m .now) (names (a .b)) ≡ false = sym (called-read (a .b) (a .m .now) (j .result) (j .ensures)) ∙ sym (q .ensures) ∙ not-true (q .result) (c .before .before .if1 .taken) in
     refuses (a .b) (udp (a .m .now)) [] (toNobody (a .m .now)) _ (uncalled (a .b) (a .m .now) n) (c .refused .ensures ∙ rw (c .before .to-nobody .ensures)) refl
 
-hear-requires : tie.Need-hear-requires
-hear-requires c κs = search needs
+hear-cast-requires : tie.Need-hear-cast-requires
+hear-cast-requires c κs = search needs
 
 enum-known-answer : tie.Need-enum-known-answer
 enum-known-answer c = search needs
@@ -66,7 +66,7 @@ enum-known-answer c = search needs
 refused-requires-2 : tie.Need-refused-requires-2
 refused-requires-2 c κs =
     let a = c .before .before .before .before .before .before .before .before .before .args in
-    refused-undone (a .m .now) _ (sym (c .before .before .before .hear .ensures) ∙ c .before .answer .given .1)
+    cast-undone (a .m .now) _ (sym (c .before .before .before .hear-cast .ensures) ∙ c .before .answer .given .1)
 
 enum-told : tie.Need-enum-told
 enum-told c = search needs
@@ -96,7 +96,7 @@ returns-2 c =
     let j = c .before .before .before .before .before .before .before .before .judge in
     let q = c .before .before .before .before .before .before .any-called in
     let n = some (a .b) (a .m .now) (j .result) (q .result) (j .ensures) (q .ensures) (not-false (q .result) (c .before .before .before .before .before .if1 .left)) in
-    rests (a .b) (a .m .now) _ _ (idle (a .b) (a .m .now) _ n (sym (c .before .before .before .before .hear .ensures) ∙ c .before .before .answer .given .1) (refusing (c .before .before .answer .given .0 .0))) (c .refused2 .ensures)
+    rests (a .b) (a .m .now) _ _ (idle (a .b) (a .m .now) _ n (sym (c .before .before .before .before .hear-cast .ensures) ∙ c .before .before .answer .given .1) (refusing (c .before .before .answer .given .0 .0))) (c .refused2 .ensures)
 
 returns-3 : tie.Need-returns-3
 returns-3 c =
@@ -104,7 +104,7 @@ returns-3 c =
     let j = c .before .before .before .before .before .before .before .judge in
     let q = c .before .before .before .before .before .any-called in
     let n = some (a .b) (a .m .now) (j .result) (q .result) (j .ensures) (q .ensures) (not-false (q .result) (c .before .before .before .before .if1 .left)) in
-    rests (a .b) (a .m .now) _ _ (idle (a .b) (a .m .now) _ n (sym (c .before .before .before .hear .ensures) ∙ c .before .enum-told .given .1) broken) (c .refused3 .ensures)
+    rests (a .b) (a .m .now) _ _ (idle (a .b) (a .m .now) _ n (sym (c .before .before .before .hear-cast .ensures) ∙ c .before .enum-told .given .1) broken) (c .refused3 .ensures)
 
 returns-4 : tie.Need-returns-4
 returns-4 c =
@@ -112,7 +112,7 @@ returns-4 c =
     let j = c .before .before .before .before .before .before .before .judge in
     let q = c .before .before .before .before .before .any-called in
     let n = some (a .b) (a .m .now) (j .result) (q .result) (j .ensures) (q .ensures) (not-false (q .result) (c .before .before .before .before .if1 .left)) in
-    rests (a .b) (a .m .now) _ _ (idle (a .b) (a .m .now) _ n (sym (c .before .before .before .hear .ensures) ∙ c .before .enum-told2 .given .1) strange) (c .refused4 .ensures)
+    rests (a .b) (a .m .now) _ _ (idle (a .b) (a .m .now) _ n (sym (c .before .before .before .hear-cast .ensures) ∙ c .before .enum-told2 .given .1) strange) (c .refused4 .ensures)
 
 returns-5 : tie.Need-returns-5
 returns-5 c =
@@ -120,7 +120,7 @@ returns-5 c =
     let j = c .before .before .before .before .before .before .before .before .before .judge in
     let q = c .before .before .before .before .before .before .before .any-called in
     let n = some (a .b) (a .m .now) (j .result) (q .result) (j .ensures) (q .ensures) (not-false (q .result) (c .before .before .before .before .before .before .if1 .left)) in
-    steps (a .b) (udp (a .m .now)) _ [] _ (obeyed (a .b) (a .m .now) (c .before .before .before .o .given .0 .0) (called-valid (a .b) (a .m .now) n) n (sym (c .before .before .before .before .before .hear .ensures) ∙ c .before .before .before .o .given .1)) (ap (λ (ps : List Panel). withPanels (a .b) ps) (c .obey-all .ensures)) refl refl refl refl
+    steps (a .b) (udp (a .m .now)) _ [] _ (obeyed (a .b) (a .m .now) (c .before .before .before .o .given .0 .0) (called-valid (a .b) (a .m .now) n) n (sym (c .before .before .before .before .before .hear-cast .ensures) ∙ c .before .before .before .o .given .1)) (ap (λ (ps : List Panel). withPanels (a .b) ps) (c .obey-all .ensures)) refl refl refl refl
 
 pub take-udp-spec : {M : Type 1} → statement M
 take-udp-spec =
@@ -131,7 +131,7 @@ take-udp-spec =
     to-nobody-requires
     refused-requires
     returns
-    hear-requires
+    hear-cast-requires
     enum-known-answer
     refused-requires-2
     enum-told

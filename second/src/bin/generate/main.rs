@@ -3,8 +3,8 @@
 //! - `generate SEED ORDERS` writes a random script of that many orders; the same seed gives the
 //!   same script, always and everywhere.
 //! - `generate sweep` writes the fixed script that walks every small range of document 01, streams
-//!   in pieces (document 02, §1), every ending behind every kind of words (§2), and every flip word
-//!   from every flip (§4).
+//!   in pieces (document 02, §1), every ending behind every kind of words (§2), every flip word
+//!   from every flip (§4), and status asked by broadcast in every form (§5).
 //!
 //! The generator knows what the documents accept, so that most of its messages get past the first
 //! checks; it does not know, and does not use, what the answers are.
@@ -126,14 +126,14 @@ mod tests {
         assert!(pieces.iter().all(|(_, held)| *held < 512));
     }
 
-    /// Every answer number that document 01 has for each way in.
+    /// Every answer number that the documents have for each way in.
     fn every_answer() -> BTreeSet<(&'static str, &'static str)> {
         let numbers = [
             ("rs232", "0123456"),
             ("tcp", "0123456"),
             // What a receiver hands out has 13 bytes at least.
             ("piece", "012456"),
-            ("udp", "03456"),
+            ("udp", "034568"),
             ("kjw", "012346"),
             ("advert", "0345"),
             ("write", "01345"),
@@ -252,6 +252,49 @@ mod tests {
                 let wanted = format!("{word} {state}");
                 let count = sets.iter().filter(|words| **words == wanted).count();
                 assert!(count >= 15, "{wanted}: {count}");
+            }
+        }
+    }
+
+    /// How many data areas by UDP begin with this text and have this number.
+    fn broadcasts(answered: &[(String, String)], text: &str, number: &str) -> usize {
+        answered
+            .iter()
+            .filter(|(order, _)| order.starts_with("udp "))
+            .filter_map(data_and_number)
+            .filter(|(data, told)| data.starts_with(text.as_bytes()) && *told == number)
+            .count()
+    }
+
+    #[test]
+    fn a_random_script_asks_for_status_by_broadcast() {
+        let answered = answered(&random::script(3, 20_000));
+        let count = |texts: &[&str], number: &str| -> usize {
+            let counts = texts.iter().map(|text| broadcasts(&answered, text, number));
+            counts.sum()
+        };
+        let names = words::names();
+        let asked: Vec<String> = names.iter().map(|name| format!("STATget {name}")).collect();
+        let asked: Vec<&str> = asked.iter().map(String::as_str).collect();
+        assert!(count(&asked, "8") >= 50);
+        assert!(count(&words::QUESTIONS, "8") >= 50);
+        assert!(count(&words::NO_QUESTIONS, "6") >= 20);
+        assert!(count(&["STATget\0"], "8") >= 1);
+        assert!(count(&["STATget "], "5") >= 5);
+        assert!(count(&["STATget "], "4") >= 20);
+        assert_eq!(count(&["STATget "], "0") + count(&["STATget "], "6"), 0);
+    }
+
+    #[test]
+    fn the_sweep_asks_for_status_by_broadcast() {
+        let answered = answered(&sweep::script());
+        for name in words::names() {
+            let asked = format!("STATget {name}");
+            assert!(broadcasts(&answered, &asked, "8") >= 20, "{asked}");
+        }
+        for (texts, number) in [(words::QUESTIONS, "8"), (words::NO_QUESTIONS, "6")] {
+            for text in texts {
+                assert!(broadcasts(&answered, text, number) >= 10, "{text:?}");
             }
         }
     }

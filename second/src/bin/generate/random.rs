@@ -489,7 +489,12 @@ impl Console {
 
     fn udp(&mut self) {
         let (group, unit) = self.pair_for_udp();
-        let mut message = packet(group, unit, &words::text(&mut self.rng));
+        let data = if self.rng.once_in(4) {
+            words::question(&mut self.rng)
+        } else {
+            words::text(&mut self.rng)
+        };
+        let mut message = packet(group, unit, &data);
         if self.rng.once_in(8) {
             self.spoil_packet(&mut message);
         }

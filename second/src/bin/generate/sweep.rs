@@ -8,8 +8,8 @@ use crate::make::{
 use crate::unread;
 use crate::wire;
 use crate::words::{
-    good_texts, names, BAD_ENDINGS, CHOICES, FLIPS, GOOD_ENDINGS, LEVELS, SHIFTS, STRANGERS,
-    SWITCHES,
+    good_texts, names, BAD_ENDINGS, CHOICES, FLIPS, GOOD_ENDINGS, LEVELS, NO_QUESTIONS, QUESTIONS,
+    SHIFTS, STRANGERS, SWITCHES,
 };
 
 /// The links of [`HOUSE`].
@@ -28,7 +28,7 @@ type Part = (&'static str, fn(&mut Script));
 
 pub fn script() -> Vec<u8> {
     let mut script = Script::of_at_most(MOST_ORDERS);
-    let parts: [Part; 28] = [
+    let parts: [Part; 29] = [
         ("before any box", before_any_box),
         ("boxes, good and bad", boxes),
         ("links and areas", links_and_areas),
@@ -46,6 +46,7 @@ pub fn script() -> Vec<u8> {
         ("VMC: numbers that are none", numbers),
         ("VMC: near misses of every word", near_misses),
         ("VMC: what stands behind the words", endings),
+        ("VMC: status by broadcast", broadcast_questions),
         ("off the wire: links and areas", wire::links_and_areas),
         ("off the wire: every cut", wire::cuts),
         ("off the wire: every byte of the header", wire::headers),
@@ -804,6 +805,71 @@ fn endings(script: &mut Script) {
         }
     }
     script.show_all(PANELS);
+}
+
+/// STATget by UDP with every kind of tail, and what is nearly STATget; by TCP beside it.
+fn broadcast_questions(script: &mut Script) {
+    script.line(HOUSE);
+    let mut texts: Vec<Vec<u8>> = Vec::new();
+    texts.extend(
+        names()
+            .iter()
+            .map(|name| format!("STATget {name}").into_bytes()),
+    );
+    texts.extend(QUESTIONS.iter().map(|text| text.as_bytes().to_vec()));
+    texts.extend(NO_QUESTIONS.iter().map(|text| text.as_bytes().to_vec()));
+    for text in &texts {
+        let bare: &[u8] = b"";
+        for ending in [bare].iter().chain(&GOOD_ENDINGS).chain(&BAD_ENDINGS) {
+            let data = [&text[..], ending].concat();
+            script.udp(&packet(1, 255, &data));
+            script.udp(&packet(255, 255, &data));
+            script.tcp(W, 512, &packet(0, 0, &data));
+        }
+        // A fault of an earlier number, and nobody called.
+        let asked = packet(1, 255, text);
+        for (place, byte) in [(0, 4), (6, 3), (7, 2), (8, 1), (10, 1), (11, 2), (12, 99)] {
+            let mut message = asked.clone();
+            message[place] = byte;
+            script.udp(&message);
+        }
+        script.udp(&asked[..12]);
+    }
+    script.show_all(PANELS);
+    // Every byte behind STATget, in its place, and behind the space.
+    for byte in 0..=255 {
+        for (front, back) in [
+            (&b"STATget"[..], &b""[..]),
+            (b"STATget", b"VOLUME"),
+            (b"STATget ", b""),
+            (b"STATge", b" VOLUME"),
+            (b"", b"STATget VOLUME"),
+        ] {
+            let data = [front, &[byte], back].concat();
+            script.udp(&packet(255, 255, &data));
+        }
+    }
+    // So much behind it, up to the longest data and beyond.
+    for count in [8, 20, 255, 256, 498, 499, 500, 501] {
+        for filler in [b' ', b'A', 0x00] {
+            for text in [&b"STATget"[..], b"STATget VOLUME", b"STATget\0"] {
+                let mut data = text.to_vec();
+                data.resize(count.max(text.len()), filler);
+                script.udp(&packet(255, 255, &data));
+                data.pop();
+                data.push(0x00);
+                script.udp(&packet(255, 255, &data));
+            }
+        }
+    }
+    // No W panel, no panel.
+    for line in ["box K 0 0 K 0 0", "box"] {
+        script.line(line);
+        for group in [0, 1, 255] {
+            script.udp(&packet(group, 255, b"STATget VOLUME"));
+            script.udp(&packet(group, 255, b"STATget"));
+        }
+    }
 }
 
 fn frame_places(script: &mut Script) {

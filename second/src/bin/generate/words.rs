@@ -36,6 +36,42 @@ pub const GOOD_ENDINGS: [&[u8]; 5] = [b" ", b"  ", b"\0", b" \0", b"  \0"];
 /// What is nearly such an ending.
 pub const BAD_ENDINGS: [&[u8]; 6] = [b"\0 ", b"\0\0", b" \0 ", b"\t", b" \t", b"\x01"];
 
+/// Questions with no good name: status is asked all the same (§5).
+pub const QUESTIONS: [&str; 14] = [
+    "STATget",
+    "STATget",
+    "STATget ",
+    "STATget LOUDNESS",
+    "STATget RESET",
+    "STATget MODE0",
+    "STATget VOLUME 40",
+    "STATget  VOLUME",
+    "STATget volume",
+    "STATget STATget",
+    "STATget ?",
+    "STATget \t",
+    "STATget \0 ",
+    "STATget \0VOLUME",
+];
+
+/// What is nearly a question, and asks for nothing.
+pub const NO_QUESTIONS: [&str; 14] = [
+    "STATge",
+    "STATge VOLUME",
+    "STATgetVOLUME",
+    "STATgets VOLUME",
+    "STATget_VOLUME",
+    "STATget\tVOLUME",
+    "STATget\0VOLUME",
+    "STATget\0 VOLUME",
+    "STATGET VOLUME",
+    "statget VOLUME",
+    " STATget VOLUME",
+    " STATget",
+    "STATset STATget VOLUME",
+    "VOLUME STATget",
+];
+
 /// Words of the manuals, and others, that document 01 does not take.
 pub const STRANGERS: [&str; 40] = [
     "STATset CONTRAST 50",
@@ -177,6 +213,27 @@ pub fn ending(rng: &mut Rng) -> Vec<u8> {
 pub fn text(rng: &mut Rng) -> Vec<u8> {
     let mut text = bare_text(rng);
     if rng.once_in(4) {
+        text.extend(ending(rng));
+    }
+    text
+}
+
+/// A question by broadcast, or nearly, with every kind of tail; some have an ending behind it.
+pub fn question(rng: &mut Rng) -> Vec<u8> {
+    let mut text = match rng.below(10) {
+        0..=3 => format!("STATget {}", rng.pick(&names())).into_bytes(),
+        4..=5 => rng.pick(&QUESTIONS).as_bytes().to_vec(),
+        6 => [b"STATget".to_vec(), ending(rng)].concat(),
+        7..=8 => rng.pick(&NO_QUESTIONS).as_bytes().to_vec(),
+        _ => {
+            let count = rng.below(12);
+            [b"STATget ".to_vec(), rng.bytes(count)].concat()
+        }
+    };
+    if rng.once_in(10) {
+        text = near_miss(rng, text);
+    }
+    if rng.once_in(5) {
         text.extend(ending(rng));
     }
     text

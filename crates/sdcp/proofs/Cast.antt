@@ -1,0 +1,84 @@
+-- Document 02, §5: by UDP no question is understood and every set is as by TCP, for words that are understood ask for a status exactly where
+-- they are STATget's.
+use Prim.Native.Nat.{ℕ}
+use mathlib.Core.Path.{_≡_, refl, sym, ap, _∙_}
+use mathlib.Core.Bool.{Bool, true, false, not}
+use mathlib.Core.List.{List}
+use native.Mathlib.Omega.{arith}
+use lib.Dec.{ltb}
+use lib.ListN.{length}
+use Rattle.laws.proofs.Conditions.{passed}
+use Rattle.terms.specs.declared.Answer.the-variants.{WrongLength, NotForUs}
+use Rattle.panels.specs.Valid.{okW}
+use Rattle.panels.specs.declared.WRecord.{WRecord}
+use Rattle.vmc.specs.Orders.{carried}
+use Rattle.vmc.proofs.Questions.{asksOnly, question-is}
+use Rattle.vmc_asks.specs.Asks.{readData, asksStatus}
+use Rattle.vmc_asks.specs.declared.Order.{Order}
+use Rattle.vmc_asks.specs.declared.Order.the-variants.{Set, Shift, Reset, Get}
+use Rattle.vmc_asks.specs.declared.Words.{Words}
+use Rattle.vmc_asks.specs.declared.Words.the-variants.{Understood as UnderstoodWords, NotUnderstood as NotUnderstoodWords}
+use Rattle.sdcp_asks.specs.Asks.{isOurs, isBroken, inWords, dataOf, heardOf, unlessStatus, castOf}
+use Rattle.sdcp_asks.specs.declared.Heard.{Heard}
+use Rattle.sdcp_asks.specs.declared.Heard.the-variants.{Refused, Broken, NotUnderstood, Understood}
+use Rattle.sdcp_asks.proofs.Cast.{cast-plain, cast-heard}
+use Rattle.sdcp.specs.Replies.{turned, turnOf, castTurnOf}
+use Rattle.sdcp.proofs.Validity.{turned-valid}
+
+-- a packet that is understood has words that are
+pub heard-words : (p : List ℕ) (o : Order) → heardOf p ≡ Understood o → readData (dataOf p) ≡ UnderstoodWords o
+unfolding heardOf
+heard-words p o e =
+    let t = passed (ltb (length p) 13) (Refused WrongLength) _ (Understood o) (λ q. let z : _≡_ {A = ℕ} 0 1 = cc in omega arith) e in
+    let u = passed (not (isOurs p)) (Refused NotForUs) _ (Understood o) (λ q. let z : _≡_ {A = ℕ} 0 1 = cc in omega arith) (t .1) in
+    let v = passed (isBroken p) Broken _ (Understood o) (λ q. let z : _≡_ {A = ℕ} 0 1 = cc in omega arith) (u .1) in
+    go (readData (dataOf p)) (v .1)
+  where
+    go : (x : Words) → inWords x ≡ Understood o → x ≡ UnderstoodWords o
+    go (UnderstoodWords o′) q = cc
+    go NotUnderstoodWords q = absurd (let z : _≡_ {A = ℕ} 0 1 = cc in omega arith)
+
+-- whether such a packet asks for a status is its order's to say
+asks-is : (m : List ℕ) (o : Order) → heardOf m ≡ Understood o → asksStatus (dataOf m) ≡ asksOnly o
+asks-is m o e = question-is (dataOf m) o (heard-words m o e)
+
+-- what is heard of it by UDP
+cast-is : (m : List ℕ) (o : Order) → heardOf m ≡ Understood o → castOf m ≡ unlessStatus (asksOnly o) (Understood o)
+unfolding castOf
+cast-is m o e = ap (λ (b : Bool). unlessStatus b (heardOf m)) (asks-is m o e) ∙ ap (unlessStatus (asksOnly o)) e
+
+-- by UDP no question is understood
+pub cast-asks-nothing : (m : List ℕ) (k : ℕ) → castOf m ≡ Understood (Get k) → ⊥
+cast-asks-nothing m k e =
+    let r = sym (cast-is m (Get k) (cast-heard m (Get k) e)) ∙ e in
+    let z : _≡_ {A = ℕ} 0 1 = cc in
+    omega arith
+
+-- and every set is what it is by TCP
+pub set-cast : (m : List ℕ) (o : Order) → heardOf m ≡ Understood o → asksOnly o ≡ false → castOf m ≡ Understood o
+set-cast m o e n = cast-plain m (asks-is m o e ∙ n) ∙ e
+
+-- so the record after it is the one after its order: a question changes none
+pub cast-carries : (m : List ℕ) (o : Order) (w : WRecord) → heardOf m ≡ Understood o → castTurnOf m w .after ≡ carried o w
+unfolding turned carried
+cast-carries m o w e = ap (λ (h : Heard). turned m h w .after) (cast-is m o e) ∙ go o
+  where
+    go : (x : Order) → turned m (unlessStatus (asksOnly x) (Understood x)) w .after ≡ carried x w
+    go (Set k v) = refl
+    go (Shift axis z) = refl
+    go Reset = refl
+    go (Get k) = refl
+
+-- a valid record stays valid by UDP too
+unless-valid : (m : List ℕ) (asked : Bool) (h : Heard) (w : WRecord) → okW w ≡ true → okW (turned m h w .after) ≡ true → okW (turned m (unlessStatus asked h) w .after) ≡ true
+unfolding turned
+unless-valid m asked (Refused a) w v k = v
+unless-valid m asked Broken w v k = v
+unless-valid m true NotUnderstood w v k = v
+unless-valid m false NotUnderstood w v k = v
+unless-valid m true (Understood o) w v k = v
+unless-valid m false (Understood o) w v k = k
+
+pub cast-valid : (m : List ℕ) (w : WRecord) → okW w ≡ true → okW (castTurnOf m w .after) ≡ true
+unfolding castOf
+cast-valid m w v = unless-valid m (asksStatus (dataOf m)) (heardOf m) w v (turned-valid m w v)
