@@ -270,6 +270,10 @@ uint8_t box_configure(struct display_box *box, const uint8_t *configuration, siz
  *
  * By BOX_WAY_UDP the link and the area are not looked at: the link is any number,
  * the area may be (NULL, 0), and the length is always 0.
+ *
+ * By BOX_WAY_KJW the codes of the remote control are taken too: IRCC with sixteen
+ * decimal digits. A code that changes nothing, as Volume Up at 100, is BOX_DONE
+ * with the answer alone, and one that no button has is BOX_NOT_UNDERSTOOD.
  */
 struct box_outcome box_take(struct display_box *box, uint8_t way, size_t link,
                             const uint8_t *message, size_t message_length,

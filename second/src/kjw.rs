@@ -1,9 +1,11 @@
 //! Document 01, "KJW (003)".
 //!
-//! "24 bytes: `*S`, type, four letters, 16 parameters, 0Ah."
+//! "24 bytes: `*S`, type, four letters, 16 parameters, 0Ah." What the codes of the remote control
+//! stand for is in [`crate::remote`].
 
 use crate::answer::{Answer, Reply};
 use crate::panel::{InputType, KSettings, Scene};
+use crate::remote;
 
 const FRAME: usize = 24;
 const FOOTER: u8 = 0x0A;
@@ -104,6 +106,12 @@ fn control(
         b"SCEN" => {
             settings.scene = read_scene(parameters)?;
             *b"SCEN"
+        }
+        // Document 02, §6: "an unlisted code, or a parameter that isn't sixteen digits, is 6". The
+        // notice has "the state's own letters"; where there is no state, nothing changes.
+        b"IRCC" => {
+            let button = remote::button(read_decimal(parameters)?)?;
+            remote::press(settings, button).unwrap_or(*letters)
         }
         _ => return None,
     };

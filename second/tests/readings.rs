@@ -305,6 +305,149 @@ fn inpt_changes_by_type_or_port() {
     }
 }
 
+/// What a code of the remote control is answered with by panel 4.
+fn press(held: &mut DisplayBox, code: u64) -> Told {
+    kjw(held, 4, &frame(&format!("CIRCC{code:016}")))
+}
+
+/// The answer to an accepted code with this notice behind it, or none.
+fn pressed(notice: &str) -> Told {
+    let mut bytes = frame("AIRCC0000000000000000");
+    if !notice.is_empty() {
+        bytes.extend(frame(notice));
+    }
+    (0, bytes)
+}
+
+// §6: "Volume Up and Down move by one and stop at 0 and 100". No change, no notice.
+#[test]
+fn louder_and_softer() {
+    let mut held = usual_box();
+    assert_eq!(press(&mut held, 31), pressed(""));
+    assert_eq!(held, usual_box());
+    for volume in 1..=100 {
+        let notice = format!("NVOLU{volume:016}");
+        assert_eq!(press(&mut held, 30), pressed(&notice));
+        assert_eq!(k(&mut held, 4).volume, volume);
+    }
+    let loudest = held.clone();
+    assert_eq!(press(&mut held, 30), pressed(""));
+    assert_eq!(held, loudest);
+    for volume in (0..100).rev() {
+        let notice = format!("NVOLU{volume:016}");
+        assert_eq!(press(&mut held, 31), pressed(&notice));
+    }
+    assert_eq!(held, usual_box());
+}
+
+// §6: "Mute flips AMUT; Picture Off flips PMUT; TV Power flips POWR", and "A change is followed by the
+// usual notice with the state's own letters."
+#[test]
+fn mute_picture_off_and_power() {
+    let mut held = usual_box();
+    for (code, letters) in [(32, "AMUT"), (50, "PMUT"), (98, "POWR")] {
+        for value in [1, 0, 1] {
+            let notice = format!("N{letters}{value:016}");
+            assert_eq!(press(&mut held, code), pressed(&notice));
+        }
+    }
+    let panel = k(&mut held, 4).clone();
+    assert!(panel.audio_mute && panel.picture_mute && panel.power);
+    for code in [98, 50, 32] {
+        assert_eq!(press(&mut held, code).0, 0);
+    }
+    assert_eq!(held, usual_box());
+}
+
+// §6: "HDMI 1 to 4 choose type 1 and that port." No change, no notice.
+#[test]
+fn the_four_hdmi_ports() {
+    let mut held = usual_box();
+    assert_eq!(press(&mut held, 124), pressed(""));
+    for (code, port) in [(125, 2), (126, 3), (127, 4), (124, 1)] {
+        let notice = format!("NINPT0000000100{port:06}");
+        assert_eq!(press(&mut held, code), pressed(&notice));
+        assert_eq!(press(&mut held, code), pressed(""));
+        assert_eq!(k(&mut held, 4).port, port);
+    }
+    // The same port of another type is a change.
+    assert_eq!(kjw(&mut held, 4, &frame("CINPT0000000300000001")).0, 0);
+    assert_eq!(press(&mut held, 124), pressed("NINPT0000000100000001"));
+    assert_eq!(held, usual_box());
+}
+
+// §6: "Other listed codes are answered and change nothing."
+#[test]
+fn other_buttons_change_nothing() {
+    let with_state = [30, 31, 32, 50, 98, 124, 125, 126, 127];
+    let mut others = 0;
+    for (_, code) in second::remote::TABLE {
+        if !with_state.contains(&code) {
+            let mut held = usual_box();
+            assert_eq!(press(&mut held, code), pressed(""), "{code}");
+            assert_eq!(held, usual_box());
+            others += 1;
+        }
+    }
+    assert_eq!(others, 48);
+}
+
+// §6: "an unlisted code, or a parameter that isn't sixteen digits, is 6". The number that all sixteen
+// digits write. An enquiry IRCC is 6.
+#[test]
+fn what_is_no_code() {
+    let mut held = usual_box();
+    let refused = (6, frame("AIRCCFFFFFFFFFFFFFFFF"));
+    for code in [0, 1, 4, 28, 29, 36, 97, 100, 102, 128, 131, 140, 255] {
+        assert_eq!(press(&mut held, code), refused, "{code}");
+    }
+    for code in [
+        256 + 98,
+        1098,
+        65_536 + 98,
+        4_294_967_296 + 98,
+        1_000_000_000_000_098,
+        9_800_000_000_000_000,
+        9_999_999_999_999_999,
+    ] {
+        assert_eq!(press(&mut held, code), refused, "{code}");
+    }
+    for parameter in [
+        "################",
+        "##############98",
+        "0000000000000 98",
+        "0000000000000+98",
+        "0000000000000062",
+        "000000000000001E",
+        "000000000000009:",
+        "000000000000009/",
+        "FFFFFFFFFFFFFFFF",
+    ] {
+        let told = kjw(&mut held, 4, &frame(&format!("CIRCC{parameter}")));
+        // 62h would be 98, and 62 is a button of its own.
+        let listed = parameter.ends_with("62");
+        let expected = if listed { pressed("") } else { refused.clone() };
+        assert_eq!(told, expected, "{parameter}");
+    }
+    for parameter in ["################", "0000000000000098", "0000000000000000"] {
+        let told = kjw(&mut held, 4, &frame(&format!("EIRCC{parameter}")));
+        assert_eq!(told, refused, "{parameter}");
+    }
+    assert_eq!(held, usual_box());
+}
+
+// §6: a panel in standby takes every button, as it takes every command; the other K panel hears
+// nothing, and a W panel has no such link.
+#[test]
+fn whose_remote_it_is() {
+    let mut held = new_box(&[(b'W', 1, 1), (b'K', 0, 0), (b'K', 0, 0), (b'K', 0, 0)]);
+    assert_eq!(press(&mut held, 30), pressed("NVOLU0000000000000001"));
+    assert_eq!(k(&mut held, 2).volume + k(&mut held, 3).volume, 0);
+    let button = frame("CIRCC0000000000000030");
+    assert_eq!(kjw(&mut held, 1, &button), (2, vec![]));
+    assert_eq!(kjw_in(&mut held, 2, 511, &button), (1, vec![]));
+}
+
 // RESET is the two shifts alone. `+5` and `5` are one value; a number of any length out of range
 // is 6 and is never reduced.
 #[test]

@@ -1,9 +1,9 @@
 /*
  * The calls on boxes, from C: boxes that break the rules, two boxes at once,
  * every way in and every number that is none, every length of message, area and
- * configuration, and the bench examples. Box, message and area stand alone in
- * memory with their exact sizes. What is expected is worked out here, from
- * documents 01 and 02, and not taken from the box.
+ * configuration, the codes of the remote control, and the bench examples. Box,
+ * message and area stand alone in memory with their exact sizes. What is expected
+ * is worked out here, from the documents, and not taken from the box.
  */
 #include "areas.h"
 #include "messages.h"
@@ -549,6 +549,95 @@ static void two_boxes(void)
     }
 }
 
+/* ---- the remote control (document 02, section 6) */
+
+/*
+ * What the button with a code does to a K record. Gives the letters of the state
+ * that it is for, "" where it is for none, and NULL where no button has the code.
+ */
+static const char *pressed(struct box_k_record *k, unsigned code)
+{
+    static const uint8_t others[] = {
+        5, 6, 7, 8, 9, 10, 11, 12, 13, 14, 15, 16, 17, 18, 19, 20, 21, 22, 23, 24, 25, 26, 27, 33, 34, 35, 38, 61, 62, 76,
+        77, 78, 79, 80, 81, 82, 84, 86, 87, 99, 101, 104, 105, 108, 110, 121, 129, 130,
+    };
+    switch (code) {
+    case 30:
+        k->volume = k->volume == 100 ? 100 : (uint8_t)(k->volume + 1);
+        return "VOLU";
+    case 31:
+        k->volume = k->volume == 0 ? 0 : (uint8_t)(k->volume - 1);
+        return "VOLU";
+    case 32:
+        k->amut = !k->amut;
+        return "AMUT";
+    case 50:
+        k->pmut = !k->pmut;
+        return "PMUT";
+    case 98:
+        k->power = !k->power;
+        return "POWR";
+    case 124:
+    case 125:
+    case 126:
+    case 127:
+        k->kind = 1;
+        k->port = (uint16_t)(code - 123);
+        return "INPT";
+    }
+    for (size_t i = 0; i < LENGTH_OF(others); i++)
+        if (others[i] == code)
+            return "";
+    return NULL;
+}
+
+/* The answer, and the notice with the state's letters where the record changed. */
+static struct told code_told(const struct box_k_record *before, const struct box_k_record *after, const char *letters)
+{
+    char reply[64];
+    if (letters == NULL)
+        return told(6, "*SAIRCCFFFFFFFFFFFFFFFF\n", 24);
+    int n = sprintf(reply, "*SAIRCC0000000000000000\n");
+    if (is_same(before, after, sizeof *after))
+        return told(0, reply, (size_t)n);
+    if (strcmp(letters, "INPT") == 0) {
+        n += sprintf(reply + n, "*SNINPT%08u%08u\n", after->kind, after->port);
+        return told(0, reply, (size_t)n);
+    }
+    unsigned value = letters[0] == 'V' ? after->volume : letters[0] == 'A' ? after->amut : letters[1] == 'M' ? after->pmut : after->power;
+    n += sprintf(reply + n, "*SN%s%016u\n", letters, value);
+    return told(0, reply, (size_t)n);
+}
+
+static void press(const struct display_box *box, unsigned code)
+{
+    char text[22];
+    sprintf(text, "CIRCC%016u", code);
+    struct message m = kjw_frame(text);
+    struct display_box after = *box;
+    const char *letters = pressed(&after.panels[1].k, code);
+    struct told want = code_told(&box->panels[1].k, &after.panels[1].k, letters);
+    takes(box, BOX_WAY_KJW, 2, m.bytes, m.length, BOX_AREA_LENGTH, &want, &after);
+}
+
+/* Every number to 9,999 from the start, and the table's on a panel with no switch and no volume as it starts, and on other inputs. */
+static void every_code(void)
+{
+    static const struct box_k_record other = { 1, 1, 1, 100, 0, 5, 9999 };
+    struct display_box box = box_of("WK");
+    for (unsigned code = 0; code <= 9999; code++)
+        press(&box, code);
+    box.panels[1].k = other;
+    for (unsigned code = 0; code <= 131; code++)
+        press(&box, code);
+    for (uint16_t port = 1; port <= 4; port++) {
+        box.panels[1].k.kind = 1;
+        box.panels[1].k.port = port;
+        for (unsigned code = 124; code <= 127; code++)
+            press(&box, code);
+    }
+}
+
 /* ---- what was tried at the bench */
 
 static void nothing(struct display_box *b) { (void)b; }
@@ -621,6 +710,7 @@ int main(void)
         broken_boxes();
         configurations();
         two_boxes();
+        every_code();
         at_the_bench();
     }
     return verdict();

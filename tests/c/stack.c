@@ -140,7 +140,8 @@ static void takes_frames(const struct display_box *box)
     static const char *const frames[] = {
         "CPOWR0000000000000001", "CTPOW################", "CTPMU################", "CVOLU0000000000000100", "CVOLU9999999999999999",
         "CINPT0000000500009999", "CSCENauto24pSync#####", "EPOWR################", "EVOLU################", "EINPT################",
-        "ESCEN################", "CZOOM0000000000000001", "APOWR0000000000000001",
+        "ESCEN################", "CZOOM0000000000000001", "APOWR0000000000000001", "CIRCC0000000000000030", "CIRCC0000000000000127",
+        "CIRCC0000000000000028",
     };
     for (size_t i = 0; i < LENGTH_OF(blocks); i++)
         takes(box, rs232c_frame(blocks[i], lengths[i]));

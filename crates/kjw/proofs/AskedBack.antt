@@ -19,11 +19,11 @@ use Rattle.kjw_asks.specs.Frames.{frameOf, typeControl, typeEnquiry, typeAnswer
 use Rattle.kjw_sets.specs.Words.{stateLetters, switches, scenes}
 use Rattle.kjw_values.specs.Values.{switchWord, sceneWord, inputWord, valueOf}
 use Rattle.kjw_tells.specs.Texts.{bytesOf}
-use Rattle.kjw_asks.specs.Asks.{namedIn, stateNamed, toggleOf, controlBy, controlOf, enquiryOf, isOurs, heardOf}
+use Rattle.kjw_asks.specs.Asks.{namedIn, stateNamed, toggleOf, codeOrToggle, controlBy, controlOf, enquiryOf, isOurs, heardOf}
 use Rattle.kjw_sets.specs.Sets.{Choice, aWord, noWord, chosen, choiceOrder, isVolume, isPadded, kindIn, portIn, inputOf, volumeOrder, inputOrder, setBy}
 use Rattle.kjw_asks.specs.declared.Named.{Named}
 use Rattle.kjw_asks.proofs.Names.{letters-name}
-use Rattle.kjw.specs.Orders.{flipped, withPower, withPmut, carried}
+use Rattle.kjw.specs.Orders.{turnedOver, withPower, withPmut, carried}
 use Rattle.kjw.specs.Replies.{decided, replyOf, turnOf}
 use Rattle.kjw_sets.specs.declared.State.{State}
 use Rattle.kjw_sets.specs.declared.State.the-variants.{Power, AudioMute, PictureMute, Volume, Input, Scene}
@@ -87,7 +87,7 @@ set-value Input p k h e =
 set-value Scene p k h e = by-word Scene SetScene sceneWord 3 p k (chosen scenes p) (λ v. refl) (scene-chosen p) e
 
 -- a control or an enquiry that is well made is heard by its letters and parameters
-heard-frame : (t a b c d : ℕ) (p : List ℕ) → length p ≡ 16 → listed (typeControl ∷ typeEnquiry ∷ []) t ≡ true → heardOf (frameOf t (a ∷ b ∷ c ∷ d ∷ []) p) ≡ cond (eqb t typeControl) (controlOf (a ∷ b ∷ c ∷ d ∷ []) p) (enquiryOf (a ∷ b ∷ c ∷ d ∷ []) p)
+pub heard-frame : (t a b c d : ℕ) (p : List ℕ) → length p ≡ 16 → listed (typeControl ∷ typeEnquiry ∷ []) t ≡ true → heardOf (frameOf t (a ∷ b ∷ c ∷ d ∷ []) p) ≡ cond (eqb t typeControl) (controlOf (a ∷ b ∷ c ∷ d ∷ []) p) (enquiryOf (a ∷ b ∷ c ∷ d ∷ []) p)
 unfolding heardOf isOurs lettersOf frameOf
 heard-frame t a b c d p h k =
     let footer : getD (p ++ (0x0a ∷ [])) 16 0 ≡ 0x0a = ap (λ (n : ℕ). getD (p ++ (0x0a ∷ [])) n 0) (omega arith) ∙ getD-append-add p (0x0a ∷ []) 0 0 in
@@ -126,12 +126,12 @@ set-then-asked s p k h e =
     asked-reply s (decided k (heardOf (frameOf typeControl (stateLetters s) p)) .k) ∙ ap (frameOf typeAnswer (stateLetters s)) v
 
 -- a toggle turns its switch over, whatever the panel
-pub toggled-power : (k : KRecord) → turnOf (frameOf typeControl (ascii "TPOW") blank) k .after ≡ withPower (flipped (k .power)) k
-unfolding turnOf decided heardOf isOurs controlOf stateNamed namedIn toggleOf stateLetters lettersOf carried frameOf
+pub toggled-power : (k : KRecord) → turnOf (frameOf typeControl (ascii "TPOW") blank) k .after ≡ withPower (turnedOver (k .power)) k
+unfolding turnOf decided heardOf isOurs controlOf stateNamed namedIn codeOrToggle toggleOf stateLetters lettersOf carried frameOf
 toggled-power k = refl
 
-pub toggled-picture : (k : KRecord) → turnOf (frameOf typeControl (ascii "TPMU") blank) k .after ≡ withPmut (flipped (k .pmut)) k
-unfolding turnOf decided heardOf isOurs controlOf stateNamed namedIn toggleOf stateLetters lettersOf carried frameOf
+pub toggled-picture : (k : KRecord) → turnOf (frameOf typeControl (ascii "TPMU") blank) k .after ≡ withPmut (turnedOver (k .pmut)) k
+unfolding turnOf decided heardOf isOurs controlOf stateNamed namedIn codeOrToggle toggleOf stateLetters lettersOf carried frameOf
 toggled-picture k = refl
 
 -- what was said to be done is kept: the enquiry behind a control that was answered 0 brings its parameters back

@@ -15,9 +15,11 @@ use Rattle.kjw_sets.specs.Words.{stateLetters}
 use Rattle.kjw_values.specs.Values.{switchWord, sceneWord, inputWord, valueOf}
 use Rattle.kjw_tells.specs.Texts.{bytesOf}
 use Rattle.kjw.specs.Replies.{turnOf, decided, replyOf, noticed}
-use Rattle.kjw.specs.Orders.{carried, flipped, withPower, withAmut, withPmut, withVolume, withScene, withInput}
-use Rattle.kjw_asks.specs.Asks.{heardOf, isOurs, controlOf, enquiryOf, stateNamed, namedIn, toggleOf}
+use Rattle.kjw.specs.Orders.{carried, turnedOver, louder, softer, withPower, withAmut, withPmut, withVolume, withScene, withInput}
+use Rattle.kjw_asks.specs.Asks.{heardOf, isOurs, controlOf, enquiryOf, stateNamed, namedIn, codeOrToggle, toggleOf}
 use Rattle.kjw_sets.specs.Sets.{setBy, setOf, chosenFrom, volumeOrder, isVolume, inputOrder, isPadded, inputOf}
+use Rattle.kjw_codes.specs.Presses.{isCode, codeOrder}
+use Rattle.remote.specs.Codes.{askedIn, buttonOf}
 use Rattle.panels.specs.Valid.{okInput}
 
 -- a row: the panel before a frame, the area's length, the frame, and its turn: the panel afterwards, the answer and the reply
@@ -116,6 +118,70 @@ type-notice = refused (line "*SNPOWR0000000000000001") NotForUs
 abbrev no-room : Row
 no-room = row panel 511 (line "*SCPOWR0000000000000001") panel AreaTooSmall []
 
+-- ---- the remote control: a change has its notice, no change has none
+
+abbrev volume-up : Row
+volume-up = told startK "*SCIRCC0000000000000030" (withVolume 1 startK) "*SAIRCC0000000000000000" "*SNVOLU0000000000000001"
+
+abbrev up-to-the-most : Row
+up-to-the-most = told (withVolume 99 startK) "*SCIRCC0000000000000030" (withVolume 100 startK) "*SAIRCC0000000000000000" "*SNVOLU0000000000000100"
+
+abbrev up-at-the-most : Row
+up-at-the-most = done (withVolume 100 startK) "*SCIRCC0000000000000030" (withVolume 100 startK) "*SAIRCC0000000000000000"
+
+abbrev volume-down : Row
+volume-down = told (withVolume 1 startK) "*SCIRCC0000000000000031" startK "*SAIRCC0000000000000000" "*SNVOLU0000000000000000"
+
+abbrev down-at-nothing : Row
+down-at-nothing = done startK "*SCIRCC0000000000000031" startK "*SAIRCC0000000000000000"
+
+abbrev mute : Row
+mute = told startK "*SCIRCC0000000000000032" (withAmut 1 startK) "*SAIRCC0000000000000000" "*SNAMUT0000000000000001"
+
+abbrev picture-off : Row
+picture-off = told panel "*SCIRCC0000000000000050" (withPmut 0 panel) "*SAIRCC0000000000000000" "*SNPMUT0000000000000000"
+
+abbrev tv-power : Row
+tv-power = told startK "*SCIRCC0000000000000098" (withPower 1 startK) "*SAIRCC0000000000000000" "*SNPOWR0000000000000001"
+
+abbrev tv-power-again : Row
+tv-power-again = told (withPower 1 startK) "*SCIRCC0000000000000098" startK "*SAIRCC0000000000000000" "*SNPOWR0000000000000000"
+
+abbrev hdmi-1-chosen : Row
+hdmi-1-chosen = done startK "*SCIRCC0000000000000124" startK "*SAIRCC0000000000000000"
+
+abbrev hdmi-1 : Row
+hdmi-1 = told (withInput 1 2 startK) "*SCIRCC0000000000000124" startK "*SAIRCC0000000000000000" "*SNINPT0000000100000001"
+
+abbrev hdmi-4 : Row
+hdmi-4 = told panel "*SCIRCC0000000000000127" (withInput 1 4 panel) "*SAIRCC0000000000000000" "*SNINPT0000000100000004"
+
+abbrev first-code : Row
+first-code = done panel "*SCIRCC0000000000000005" panel "*SAIRCC0000000000000000"
+
+abbrev last-code : Row
+last-code = done panel "*SCIRCC0000000000000130" panel "*SAIRCC0000000000000000"
+
+-- ---- no code: 28, 131, a one in front of fourteen zeros and 30, a hex digit, fifteen digits and a space; and IRCC is no enquiry
+
+abbrev code-28 : Row
+code-28 = strange panel "*SCIRCC0000000000000028" "*SAIRCCFFFFFFFFFFFFFFFF"
+
+abbrev code-131 : Row
+code-131 = strange panel "*SCIRCC0000000000000131" "*SAIRCCFFFFFFFFFFFFFFFF"
+
+abbrev all-sixteen : Row
+all-sixteen = strange panel "*SCIRCC1000000000000030" "*SAIRCCFFFFFFFFFFFFFFFF"
+
+abbrev hex-digit : Row
+hex-digit = strange panel "*SCIRCC000000000000003A" "*SAIRCCFFFFFFFFFFFFFFFF"
+
+abbrev fifteen-digits : Row
+fifteen-digits = strange panel "*SCIRCC000000000000030 " "*SAIRCCFFFFFFFFFFFFFFFF"
+
+abbrev ask-code : Row
+ask-code = strange panel "*SEIRCC################" "*SAIRCCFFFFFFFFFFFFFFFF"
+
 -- ---- the table: each control, each enquiry, and the rows above
 
 examples : List Row
@@ -134,10 +200,13 @@ examples =
     done panel "*SEVOLU################" panel "*SAVOLU0000000000000042" ∷
     done panel "*SEINPT################" panel "*SAINPT0000000300000012" ∷
     done panel "*SESCEN################" panel "*SASCENauto############" ∷
+    volume-up ∷ up-to-the-most ∷ up-at-the-most ∷ volume-down ∷ down-at-nothing ∷ mute ∷ picture-off ∷ tv-power ∷ tv-power-again ∷
+    hdmi-1-chosen ∷ hdmi-1 ∷ hdmi-4 ∷ first-code ∷ last-code ∷
+    code-28 ∷ code-131 ∷ all-sixteen ∷ hex-digit ∷ fifteen-digits ∷ ask-code ∷
     volume-101 ∷ volume-digit ∷ input-type ∷ scene-bare ∷ no-state ∷ ask-given ∷
     long ∷ empty ∷ wrong-start ∷ wrong-footer ∷ type-answer ∷ type-notice ∷ no-room ∷ []
 
 -- every row's turn is what the frame comes to
 tried : map (λ (r : Row). taken (r .room) (turnOf (r .frame)) (r .before)) examples ≡ map (λ (r : Row). r .turn) examples
-unfolding examples taken turnOf decided heardOf isOurs lettersOf controlOf enquiryOf stateNamed namedIn setBy setOf toggleOf stateLetters chosenFrom volumeOrder isVolume inputOrder isPadded inputOf okInput isDigit decimal carried flipped replyOf noticed valueOf switchWord sceneWord inputWord inDigits bytesOf frameOf
+unfolding examples taken turnOf decided heardOf isOurs lettersOf controlOf enquiryOf stateNamed namedIn setBy setOf codeOrToggle toggleOf codeOrder isCode buttonOf askedIn stateLetters chosenFrom volumeOrder isVolume inputOrder isPadded inputOf okInput isDigit decimal carried turnedOver louder softer replyOf noticed valueOf switchWord sceneWord inputWord inDigits bytesOf frameOf
 tried = refl

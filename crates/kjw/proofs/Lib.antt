@@ -4,4 +4,5 @@ pub mod Validity
 pub mod Notices
 pub mod Stays
 pub mod AskedBack
+pub mod Codes
 pub mod Refusals

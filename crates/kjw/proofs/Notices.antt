@@ -18,7 +18,7 @@ use Rattle.kjw.specs.Replies.{noticed, replyOf, decided, turnOf}
 use Rattle.kjw_sets.specs.declared.State.{State}
 use Rattle.kjw_sets.specs.declared.State.the-variants.{Power, AudioMute, PictureMute, Volume, Input}
 use Rattle.kjw_sets.specs.declared.Order.{Order}
-use Rattle.kjw_sets.specs.declared.Order.the-variants.{SetPower, TogglePower, SetAudioMute, SetPictureMute, TogglePictureMute, SetVolume, SetInput, SetScene, Ask}
+use Rattle.kjw_sets.specs.declared.Order.the-variants.{SetPower, TogglePower, SetAudioMute, ToggleAudioMute, SetPictureMute, TogglePictureMute, SetVolume, Louder, Softer, SetInput, SetScene, Pass, Ask}
 use Rattle.kjw_sets.specs.declared.Heard.{Heard}
 use Rattle.kjw_sets.specs.declared.Heard.the-variants.{Refused, NotUnderstood, Understood}
 use Rattle.kjw_tells.specs.declared.Reply.{Reply}
@@ -60,11 +60,15 @@ unfolding replyOf
 reply-changed (SetPower v) k k′ e = noticed-changed Power k k′ e
 reply-changed TogglePower k k′ e = noticed-changed Power k k′ e
 reply-changed (SetAudioMute v) k k′ e = noticed-changed AudioMute k k′ e
+reply-changed ToggleAudioMute k k′ e = noticed-changed AudioMute k k′ e
 reply-changed (SetPictureMute v) k k′ e = noticed-changed PictureMute k k′ e
 reply-changed TogglePictureMute k k′ e = noticed-changed PictureMute k k′ e
 reply-changed (SetVolume v) k k′ e = noticed-changed Volume k k′ e
+reply-changed Louder k k′ e = noticed-changed Volume k k′ e
+reply-changed Softer k k′ e = noticed-changed Volume k k′ e
 reply-changed (SetInput kind port) k k′ e = noticed-changed Input k k′ e
 reply-changed (SetScene v) k k′ e = absurd (omega arith)
+reply-changed Pass k k′ e = absurd (omega arith)
 reply-changed (Ask s) k k′ e = absurd (omega arith)
 
 turn-changed : (h : Heard) (k : KRecord) → lengthOf (decided k h .reply) ≡ 48 → Notice k (decided k h .k)

@@ -2,11 +2,11 @@
 use mathlib.Core.Path.{_≡_, refl}
 use mathlib.Core.Bool.{Bool, true, not, _&&_}
 use mathlib.Core.List.{List}
-use Prim.Native.Nat.{ℕ, _<_}
+use Prim.Native.Nat.{ℕ, _+_, _-_, _<_}
 use native.Mathlib.Omega.{arith}
 use lib.ListN.{length, getD}
-use lib.Dec.{eqb, leb}
-use borrow.Author.Tests.{le-leb}
+use lib.Dec.{eqb, leb, ltb}
+use borrow.Author.Tests.{le-leb, leb-true, ltb-true}
 use Rattle.laws.specs.Bytes.{ascii, part, same}
 use Rattle.laws.specs.Lists.{every}
 use Rattle.laws.proofs.Conditions.{and-first, and-second, choose}
@@ -18,16 +18,20 @@ use Rattle.panels.specs.Valid.{okInput, okK}
 use Rattle.panels.specs.declared.KRecord.{KRecord}
 use Rattle.decimals.specs.Decimals.{isDigit, decimal}
 use Rattle.kjw_asks.specs.Frames.{lettersOf, typeControl, blank}
-use Rattle.kjw_asks.specs.Asks.{stateNamed, toggleOf, controlBy, controlOf, enquiryBy, enquiryOf, isOurs, heardOf}
+use Rattle.kjw_asks.specs.Asks.{stateNamed, toggleOf, codeOrToggle, controlBy, controlOf, enquiryBy, enquiryOf, isOurs, heardOf}
 use Rattle.kjw_sets.specs.Sets.{Choice, aWord, noWord, chosen, choiceOrder, isVolume, isPadded, kindIn, portIn, inputOf, volumeOrder, inputOrder, setBy, setOf}
+use Rattle.remote.specs.Codes.{buttonOf}
+use Rattle.remote.specs.declared.Button.{Button}
+use Rattle.remote.proofs.Rules.{each-asks}
+use Rattle.kjw_codes.specs.Presses.{pressed, isCode, codeOrder}
 use Rattle.kjw_asks.specs.declared.Named.{Named}
 use Rattle.kjw_asks.specs.declared.Named.the-variants.{Is, Nothing}
-use Rattle.kjw.specs.Orders.{flipped, carried}
+use Rattle.kjw.specs.Orders.{turnedOver, louder, softer, carried}
 use Rattle.kjw.specs.Replies.{decided, turnOf}
 use Rattle.kjw_sets.specs.declared.State.{State}
 use Rattle.kjw_sets.specs.declared.State.the-variants.{Power, AudioMute, PictureMute, Volume, Input, Scene}
 use Rattle.kjw_sets.specs.declared.Order.{Order}
-use Rattle.kjw_sets.specs.declared.Order.the-variants.{SetPower, TogglePower, SetAudioMute, SetPictureMute, TogglePictureMute, SetVolume, SetInput, SetScene, Ask}
+use Rattle.kjw_sets.specs.declared.Order.the-variants.{SetPower, TogglePower, SetAudioMute, ToggleAudioMute, SetPictureMute, TogglePictureMute, SetVolume, Louder, Softer, SetInput, SetScene, Pass, Ask}
 use Rattle.kjw_sets.specs.declared.Heard.{Heard}
 use Rattle.kjw_sets.specs.declared.Heard.the-variants.{Refused, NotUnderstood, Understood}
 use Rattle.kjw_sets.specs.Words.{switches, scenes}
@@ -40,11 +44,15 @@ abbrev inRange : Order → Bool
 inRange (SetPower v) = leb v 1
 inRange TogglePower = true
 inRange (SetAudioMute v) = leb v 1
+inRange ToggleAudioMute = true
 inRange (SetPictureMute v) = leb v 1
 inRange TogglePictureMute = true
 inRange (SetVolume v) = leb v mostVolume
+inRange Louder = true
+inRange Softer = true
 inRange (SetInput kind port) = okInput kind port
 inRange (SetScene v) = leb v lastScene
+inRange Pass = true
 inRange (Ask s) = true
 
 abbrev sound : Heard → Bool
@@ -93,9 +101,15 @@ toggle-sound l p =
     (λ e. choose Sound (same l (ascii "TPOW")) (Understood TogglePower) _ (λ f. refl)
     (λ f. choose Sound (same l (ascii "TPMU")) (Understood TogglePictureMute) NotUnderstood (λ g. refl) (λ g. refl)))
 
+-- the HDMI buttons have ports of the range, by the table
+code-sound : (p : List ℕ) → Sound (codeOrder p)
+unfolding codeOrder okInput
+code-sound p = choose Sound (isCode p) (pressed (buttonOf (decimal p))) NotUnderstood (λ e. each-asks (λ (b : Button). sound (pressed b)) refl refl (decimal p)) (λ e. refl)
+
 control-sound : (n : Named) (l p : List ℕ) → Sound (controlBy n l p)
+unfolding codeOrToggle
 control-sound (Is s) l p = set-sound s p
-control-sound Nothing l p = toggle-sound l p
+control-sound Nothing l p = choose Sound (same l (ascii "IRCC")) (codeOrder p) (toggleOf l p) (λ e. code-sound p) (λ e. toggle-sound l p)
 
 asked-sound : (n : Named) → Sound (enquiryBy n)
 asked-sound (Is s) = refl
@@ -146,20 +160,32 @@ together : (k : KRecord) → Settings k → okK k ≡ true
 unfolding okK
 together k w = rw (w .powered, w .sound-muted, w .picture-muted, w .loud, w .staged, w .fed)
 
-flipped-ok : (v : ℕ) → leb (flipped v) 1 ≡ true
-unfolding flipped
-flipped-ok v = choose (λ (x : ℕ). leb x 1 ≡ true) (eqb v 0) 1 0 (λ e. refl) (λ e. refl)
+turned-over-ok : (v : ℕ) → leb (turnedOver v) 1 ≡ true
+unfolding turnedOver
+turned-over-ok v = choose (λ (x : ℕ). leb x 1 ≡ true) (eqb v 0) 1 0 (λ e. refl) (λ e. refl)
+
+louder-ok : (v : ℕ) → leb v mostVolume ≡ true → leb (louder v) mostVolume ≡ true
+unfolding louder
+louder-ok v h = choose (λ (x : ℕ). leb x mostVolume ≡ true) (ltb v mostVolume) (v + 1) v (λ e. let l = ltb-true v mostVolume e in le-leb (v + 1) mostVolume (omega arith)) (λ e. h)
+
+softer-ok : (v : ℕ) → leb v mostVolume ≡ true → leb (softer v) mostVolume ≡ true
+unfolding softer
+softer-ok v h = choose (λ (x : ℕ). leb x mostVolume ≡ true) (ltb 0 v) (v - 1) v (λ e. let l = leb-true v mostVolume h in le-leb (v - 1) mostVolume (omega arith)) (λ e. h)
 
 carried-keeps : (o : Order) (k : KRecord) → inRange o ≡ true → Settings k → Settings (carried o k)
 unfolding carried
 carried-keeps (SetPower v) k r w = record { powered = r; sound-muted = w .sound-muted; picture-muted = w .picture-muted; loud = w .loud; staged = w .staged; fed = w .fed }
-carried-keeps TogglePower k r w = record { powered = flipped-ok (k .power); sound-muted = w .sound-muted; picture-muted = w .picture-muted; loud = w .loud; staged = w .staged; fed = w .fed }
+carried-keeps TogglePower k r w = record { powered = turned-over-ok (k .power); sound-muted = w .sound-muted; picture-muted = w .picture-muted; loud = w .loud; staged = w .staged; fed = w .fed }
 carried-keeps (SetAudioMute v) k r w = record { powered = w .powered; sound-muted = r; picture-muted = w .picture-muted; loud = w .loud; staged = w .staged; fed = w .fed }
+carried-keeps ToggleAudioMute k r w = record { powered = w .powered; sound-muted = turned-over-ok (k .amut); picture-muted = w .picture-muted; loud = w .loud; staged = w .staged; fed = w .fed }
 carried-keeps (SetPictureMute v) k r w = record { powered = w .powered; sound-muted = w .sound-muted; picture-muted = r; loud = w .loud; staged = w .staged; fed = w .fed }
-carried-keeps TogglePictureMute k r w = record { powered = w .powered; sound-muted = w .sound-muted; picture-muted = flipped-ok (k .pmut); loud = w .loud; staged = w .staged; fed = w .fed }
+carried-keeps TogglePictureMute k r w = record { powered = w .powered; sound-muted = w .sound-muted; picture-muted = turned-over-ok (k .pmut); loud = w .loud; staged = w .staged; fed = w .fed }
 carried-keeps (SetVolume v) k r w = record { powered = w .powered; sound-muted = w .sound-muted; picture-muted = w .picture-muted; loud = r; staged = w .staged; fed = w .fed }
+carried-keeps Louder k r w = record { powered = w .powered; sound-muted = w .sound-muted; picture-muted = w .picture-muted; loud = louder-ok (k .volume) (w .loud); staged = w .staged; fed = w .fed }
+carried-keeps Softer k r w = record { powered = w .powered; sound-muted = w .sound-muted; picture-muted = w .picture-muted; loud = softer-ok (k .volume) (w .loud); staged = w .staged; fed = w .fed }
 carried-keeps (SetInput kind port) k r w = record { powered = w .powered; sound-muted = w .sound-muted; picture-muted = w .picture-muted; loud = w .loud; staged = w .staged; fed = r }
 carried-keeps (SetScene v) k r w = record { powered = w .powered; sound-muted = w .sound-muted; picture-muted = w .picture-muted; loud = w .loud; staged = r; fed = w .fed }
+carried-keeps Pass k r w = w
 carried-keeps (Ask s) k r w = w
 
 turn-valid : (h : Heard) (k : KRecord) → sound h ≡ true → okK k ≡ true → okK (decided k h .k) ≡ true

@@ -1,4 +1,4 @@
--- Document 01, "KJW (003)": what a message does to a K panel's record, and what is sent back.
+-- Document 01, "KJW (003)", and document 02, §6: what a message does to a K panel's record, and what is sent back.
 use Prim.Native.Nat.{ℕ}
 use mathlib.Core.Bool.{cond}
 use mathlib.Core.List.{List}
@@ -13,7 +13,7 @@ use Rattle.kjw_tells.specs.Texts.{bytesOf}
 use Rattle.kjw_sets.specs.declared.State.{State}
 use Rattle.kjw_sets.specs.declared.State.the-variants.{Power, AudioMute, PictureMute, Volume, Input}
 use Rattle.kjw_sets.specs.declared.Order.{Order}
-use Rattle.kjw_sets.specs.declared.Order.the-variants.{SetPower, TogglePower, SetAudioMute, SetPictureMute, TogglePictureMute, SetVolume, SetInput, SetScene, Ask}
+use Rattle.kjw_sets.specs.declared.Order.the-variants.{SetPower, TogglePower, SetAudioMute, ToggleAudioMute, SetPictureMute, TogglePictureMute, SetVolume, Louder, Softer, SetInput, SetScene, Pass, Ask}
 use Rattle.kjw_sets.specs.declared.Heard.{Heard}
 use Rattle.kjw_sets.specs.declared.Heard.the-variants.{Refused, NotUnderstood, Understood}
 use Rattle.kjw_tells.specs.declared.Reply.{Reply}
@@ -26,16 +26,21 @@ use Rattle.kjw.specs.Orders.{carried}
 unfoldable pub noticed : State → KRecord → KRecord → Reply
 noticed s before after = cond (same (valueOf s before) (valueOf s after)) Accepted (Changed s)
 
--- the reply to an order: POWR, INPT, VOLU, AMUT and PMUT have notices, "TPOW and TPMU [..] (notice names POWR or PMUT)"
+-- the reply to an order: POWR, INPT, VOLU, AMUT and PMUT have notices, "TPOW and TPMU [..] (notice names POWR or PMUT)"; of a button
+-- "A change is followed by the usual notice with the state's own letters."
 unfoldable pub replyOf : Order → KRecord → KRecord → Reply
 replyOf (SetPower v) before after = noticed Power before after
 replyOf TogglePower before after = noticed Power before after
 replyOf (SetAudioMute v) before after = noticed AudioMute before after
+replyOf ToggleAudioMute before after = noticed AudioMute before after
 replyOf (SetPictureMute v) before after = noticed PictureMute before after
 replyOf TogglePictureMute before after = noticed PictureMute before after
 replyOf (SetVolume v) before after = noticed Volume before after
+replyOf Louder before after = noticed Volume before after
+replyOf Softer before after = noticed Volume before after
 replyOf (SetInput kind port) before after = noticed Input before after
 replyOf (SetScene v) before after = Accepted
+replyOf Pass before after = Accepted
 replyOf (Ask s) before after = Value s
 
 -- what the panel does with what it heard

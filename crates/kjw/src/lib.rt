@@ -1,10 +1,11 @@
-// KJW: what a K panel does with a frame (document 01, "KJW (003)").
+// KJW: what a K panel does with a frame (document 01, "KJW (003)", and document 02, §6).
 use octets::same_bytes;
 use panels::KRecord;
+use panels::MOST_VOLUME;
 use terms::Answer;
 ghost use mathlib.Core.Path.{_≡_};
 ghost use Rattle.turns.specs.Turns.{Takes};
-ghost use Rattle.kjw.specs.Orders.{flipped, carried};
+ghost use Rattle.kjw.specs.Orders.{turnedOver, louder, softer, carried};
 ghost use Rattle.kjw.specs.Replies.{noticed, replyOf, decided, turnOf};
 use kjw_asks::hear;
 use kjw_asks::letters_of;
@@ -30,13 +31,33 @@ pub struct Outcome {
 }
 
 // A switch turned over.
-fn flip(v: u8) -> u8
-    ensures { λ r. ⌜ r ≡ flipped v ⌝ }
+fn turn_over(v: u8) -> u8
+    ensures { λ r. ⌜ r ≡ turnedOver v ⌝ }
 {
     if v == 0 {
         return 1;
     }
     0
+}
+
+// A volume one higher, up to its most.
+fn raise(v: u8) -> u8
+    ensures { λ r. ⌜ r ≡ louder v ⌝ }
+{
+    if v < MOST_VOLUME {
+        return v + 1;
+    }
+    v
+}
+
+// A volume one lower, down to 0.
+fn lower(v: u8) -> u8
+    ensures { λ r. ⌜ r ≡ softer v ⌝ }
+{
+    if 0 < v {
+        return v - 1;
+    }
+    v
 }
 
 // An order carried out.
@@ -46,16 +67,20 @@ fn obey(k: KRecord, o: Order) -> KRecord
     let mut x = k;
     match o {
         Order::SetPower(v) => x.power = v,
-        Order::TogglePower => x.power = flip(k.power),
+        Order::TogglePower => x.power = turn_over(k.power),
         Order::SetAudioMute(v) => x.amut = v,
+        Order::ToggleAudioMute => x.amut = turn_over(k.amut),
         Order::SetPictureMute(v) => x.pmut = v,
-        Order::TogglePictureMute => x.pmut = flip(k.pmut),
+        Order::TogglePictureMute => x.pmut = turn_over(k.pmut),
         Order::SetVolume(v) => x.volume = v,
+        Order::Louder => x.volume = raise(k.volume),
+        Order::Softer => x.volume = lower(k.volume),
         Order::SetInput(kind, port) => {
             x.kind = kind;
             x.port = port;
         }
         Order::SetScene(v) => x.scene = v,
+        Order::Pass => {}
         Order::Ask(_) => {}
     }
     x
@@ -73,7 +98,7 @@ fn notice_of(s: State, before: KRecord, after: KRecord) -> Reply
     Reply::Changed(s)
 }
 
-// The reply to an order: a scene has no notice, and an enquiry is answered with its state.
+// The reply to an order: a scene and a pass have no notice, and an enquiry is answered with its state.
 fn reply_of(o: Order, before: KRecord, after: KRecord) -> Reply
     ensures { λ r. ⌜ r ≡ replyOf o before after ⌝ }
 {
@@ -81,11 +106,15 @@ fn reply_of(o: Order, before: KRecord, after: KRecord) -> Reply
         Order::SetPower(_) => notice_of(State::Power, before, after),
         Order::TogglePower => notice_of(State::Power, before, after),
         Order::SetAudioMute(_) => notice_of(State::AudioMute, before, after),
+        Order::ToggleAudioMute => notice_of(State::AudioMute, before, after),
         Order::SetPictureMute(_) => notice_of(State::PictureMute, before, after),
         Order::TogglePictureMute => notice_of(State::PictureMute, before, after),
         Order::SetVolume(_) => notice_of(State::Volume, before, after),
+        Order::Louder => notice_of(State::Volume, before, after),
+        Order::Softer => notice_of(State::Volume, before, after),
         Order::SetInput(_, _) => notice_of(State::Input, before, after),
         Order::SetScene(_) => Reply::Accepted,
+        Order::Pass => Reply::Accepted,
         Order::Ask(s) => Reply::Value(s),
     }
 }

@@ -17,6 +17,7 @@ use Rattle.kjw_sets.specs.declared.Order.the-variants.{TogglePower, TogglePictu
 use Rattle.kjw_sets.specs.declared.Heard.{Heard}
 use Rattle.kjw_sets.specs.declared.Heard.the-variants.{Refused, NotUnderstood, Understood}
 use Rattle.kjw_sets.specs.Sets.{setOf}
+use Rattle.kjw_codes.specs.Presses.{codeOrder}
 
 -- the states by their letters: "POWR, AMUT, PMUT, VOLU, INPT, SCEN"
 abbrev pub states : List State
@@ -39,10 +40,14 @@ toggleOf l p =
     (cond (same l (ascii "TPMU")) (Understood TogglePictureMute)
     NotUnderstood))
 
--- C: the letters name a state, or a toggle
+-- IRCC has a code for its parameters (document 02, §6); and behind it the toggles
+unfoldable pub codeOrToggle : List ℕ → List ℕ → Heard
+codeOrToggle l p = cond (same l (ascii "IRCC")) (codeOrder p) (toggleOf l p)
+
+-- C: the letters name a state, or they are IRCC or a toggle's
 abbrev pub controlBy : Named → List ℕ → List ℕ → Heard
 controlBy (Is s) l p = setOf s p
-controlBy Nothing l p = toggleOf l p
+controlBy Nothing l p = codeOrToggle l p
 
 unfoldable pub controlOf : List ℕ → List ℕ → Heard
 controlOf l p = controlBy (stateNamed l) l p

@@ -6,7 +6,8 @@ use terms::Answer;
 ghost use mathlib.Core.Path.{_≡_};
 ghost use lib.ListN.{length};
 ghost use Rattle.kjw_asks.specs.Frames.{lettersOf};
-ghost use Rattle.kjw_asks.specs.Asks.{stateNamed, toggleOf, controlOf, enquiryOf, isOurs, heardOf};
+ghost use Rattle.kjw_asks.specs.Asks.{stateNamed, toggleOf, codeOrToggle, controlOf, enquiryOf, isOurs, heardOf};
+use kjw_codes::code_order;
 use kjw_sets::Heard;
 use kjw_sets::Order;
 use kjw_sets::State;
@@ -69,13 +70,23 @@ fn toggle(letters: [u8; 4], p: &[u8]) -> Heard
     Heard::NotUnderstood
 }
 
+// IRCC, or a toggle.
+fn code_or_toggle(letters: [u8; 4], p: &[u8]) -> Heard
+    ensures { λ r. ⌜ r ≡ codeOrToggle letters (now (p .entry)) ⌝ }
+{
+    if same_bytes(&letters, b"IRCC") {
+        return code_order(p);
+    }
+    toggle(letters, p)
+}
+
 // A frame of type C.
 fn control(letters: [u8; 4], p: &[u8]) -> Heard
     ensures { λ r. ⌜ r ≡ controlOf letters (now (p .entry)) ⌝ }
 {
     match state_named(letters) {
         Named::Is(s) => set_order(s, p),
-        Named::Nothing => toggle(letters, p),
+        Named::Nothing => code_or_toggle(letters, p),
     }
 }
 

@@ -23,16 +23,20 @@ pub enum State {
     Scene,
 }
 
-// What an understood frame orders. An input is its type and its port.
+// What an understood frame orders. An input is its type and its port; a pass is answered and changes nothing.
 pub enum Order {
     SetPower(u8),
     TogglePower,
     SetAudioMute(u8),
+    ToggleAudioMute,
     SetPictureMute(u8),
     TogglePictureMute,
     SetVolume(u8),
+    Louder,
+    Softer,
     SetInput(u8, u16),
     SetScene(u8),
+    Pass,
     Ask(State),
 }
 

@@ -35,6 +35,10 @@ use Rattle.steps.specs.Step.{checks}
 use Rattle.kjw_asks.specs.Asks as frameAsks
 use Rattle.kjw_sets.specs.Words.{switches, scenes}
 use Rattle.kjw_sets.specs.Sets as frameSets
+use Rattle.kjw_codes.specs.Presses as frameCodes
+use Rattle.remote.specs.Codes.{buttonOf}
+use Rattle.remote.specs.declared.Button.{Button}
+use Rattle.remote.specs.declared.Button.the-variants as buttons
 use Rattle.kjw_asks.specs.Frames.{blank, lettersOf, typeControl}
 use Rattle.kjw_asks.specs.declared.Named.{Named}
 use Rattle.kjw_asks.specs.declared.Named.the-variants.{Is, Nothing}
@@ -257,12 +261,30 @@ set-judged : (s : State) (p : List ℕ) → FrameJudged (frameSets.setOf s p)
 unfolding frameSets.setOf
 set-judged s p = choose FrameJudged (eqb (length p) 16) _ _ (λ e. by-judged s p) (λ e. tt)
 
-control-judged : (n : Named) (l p : List ℕ) → FrameJudged (frameAsks.controlBy n l p)
+pressed-judged : (b : Button) → FrameJudged (frameCodes.pressed b)
+pressed-judged buttons.Unlisted = tt
+pressed-judged buttons.Idle = tt
+pressed-judged buttons.Louder = tt
+pressed-judged buttons.Softer = tt
+pressed-judged buttons.Mute = tt
+pressed-judged buttons.Picture = tt
+pressed-judged buttons.Power = tt
+pressed-judged (buttons.Hdmi port) = tt
+
+code-judged : (p : List ℕ) → FrameJudged (frameCodes.codeOrder p)
+unfolding frameCodes.codeOrder
+code-judged p = choose FrameJudged (frameCodes.isCode p) _ _ (λ e. pressed-judged (buttonOf (decimal p))) (λ e. tt)
+
+toggle-judged : (l p : List ℕ) → FrameJudged (frameAsks.toggleOf l p)
 unfolding frameAsks.toggleOf
-control-judged (Is s) l p = set-judged s p
-control-judged Nothing l p =
+toggle-judged l p =
     choose FrameJudged (not (same p blank)) _ _ (λ e. tt)
     (λ e. choose FrameJudged (same l (ascii "TPOW")) _ _ (λ f. tt) (λ f. choose FrameJudged (same l (ascii "TPMU")) _ _ (λ g. tt) (λ g. tt)))
+
+control-judged : (n : Named) (l p : List ℕ) → FrameJudged (frameAsks.controlBy n l p)
+unfolding frameAsks.codeOrToggle
+control-judged (Is s) l p = set-judged s p
+control-judged Nothing l p = choose FrameJudged (same l (ascii "IRCC")) _ _ (λ e. code-judged p) (λ e. toggle-judged l p)
 
 asked-judged : (n : Named) → FrameJudged (frameAsks.enquiryBy n)
 asked-judged (Is s) = tt

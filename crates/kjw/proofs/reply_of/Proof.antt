@@ -49,6 +49,27 @@ notice-of-requires-7 c κs = search needs
 enum-told-8 : tie.Need-enum-told-8
 enum-told-8 c = search needs
 
+notice-of-requires-8 : tie.Need-notice-of-requires-8
+notice-of-requires-8 c κs = search needs
+
+enum-told-9 : tie.Need-enum-told-9
+enum-told-9 c = search needs
+
+notice-of-requires-9 : tie.Need-notice-of-requires-9
+notice-of-requires-9 c κs = search needs
+
+enum-told-10 : tie.Need-enum-told-10
+enum-told-10 c = search needs
+
+notice-of-requires-10 : tie.Need-notice-of-requires-10
+notice-of-requires-10 c κs = search needs
+
+enum-told-11 : tie.Need-enum-told-11
+enum-told-11 c = search needs
+
+enum-told-12 : tie.Need-enum-told-12
+enum-told-12 c = search needs
+
 enum-known-o : tie.Need-enum-known-o
 enum-known-o c = search needs
 
@@ -82,11 +103,27 @@ returns-7 c = rw (c .before .enum-told7 .given .1) (c .notice-of7 .ensures)
 
 returns-8 : tie.Need-returns-8
 unfolding replyOf
-returns-8 c = rw (c .enum-told8 .given .1)
+returns-8 c = rw (c .before .enum-told8 .given .1) (c .notice-of8 .ensures)
 
 returns-9 : tie.Need-returns-9
 unfolding replyOf
-returns-9 c = rw (c .before .o .given .1)
+returns-9 c = rw (c .before .enum-told9 .given .1) (c .notice-of9 .ensures)
+
+returns-10 : tie.Need-returns-10
+unfolding replyOf
+returns-10 c = rw (c .before .enum-told10 .given .1) (c .notice-of10 .ensures)
+
+returns-11 : tie.Need-returns-11
+unfolding replyOf
+returns-11 c = rw (c .enum-told11 .given .1)
+
+returns-12 : tie.Need-returns-12
+unfolding replyOf
+returns-12 c = rw (c .enum-told12 .given .1)
+
+returns-13 : tie.Need-returns-13
+unfolding replyOf
+returns-13 c = rw (c .before .o .given .1)
 
 pub reply-of-spec : {M : Type 1} → statement M
 reply-of-spec =
@@ -107,6 +144,13 @@ reply-of-spec =
     enum-told-7
     notice-of-requires-7
     enum-told-8
+    notice-of-requires-8
+    enum-told-9
+    notice-of-requires-9
+    enum-told-10
+    notice-of-requires-10
+    enum-told-11
+    enum-told-12
     enum-known-o
     returns
     returns-2
@@ -116,4 +160,8 @@ reply-of-spec =
     returns-6
     returns-7
     returns-8
-    returns-9)
+    returns-9
+    returns-10
+    returns-11
+    returns-12
+    returns-13)

@@ -1,4 +1,4 @@
--- `control` asks which state the letters name, and takes the parameters for its value or for a toggle's.
+-- `control` asks which state the letters name, and takes the parameters for its value, for a code or for a toggle's.
 use borrow.Author.Needs.{needs}
 use Rattle.kjw_asks.specs.Asks.{controlOf}
 use Rattle.kjw_asks.proofs.control.Statement.{statement}
@@ -16,8 +16,8 @@ set-order-requires c κs = search needs
 enum-told : tie.Need-enum-told
 enum-told c = search needs
 
-toggle-requires : tie.Need-toggle-requires
-toggle-requires c κs = search needs
+code-or-toggle-requires : tie.Need-code-or-toggle-requires
+code-or-toggle-requires c κs = search needs
 
 returns : tie.Need-returns
 unfolding controlOf
@@ -25,7 +25,7 @@ returns c = rw (← c .before .before .before .before .state-named .ensures, c .
 
 returns-2 : tie.Need-returns-2
 unfolding controlOf
-returns-2 c = rw (← c .before .before .before .state-named .ensures, c .before .enum-told .given .1) (c .toggle .ensures)
+returns-2 c = rw (← c .before .before .before .state-named .ensures, c .before .enum-told .given .1) (c .code-or-toggle .ensures)
 
 pub control-spec : {M : Type 1} → statement M
 control-spec =
@@ -35,6 +35,6 @@ control-spec =
     enum-known-s
     set-order-requires
     enum-told
-    toggle-requires
+    code-or-toggle-requires
     returns
     returns-2)

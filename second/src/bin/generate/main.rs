@@ -4,7 +4,8 @@
 //!   same script, always and everywhere.
 //! - `generate sweep` writes the fixed script that walks every small range of document 01, streams
 //!   in pieces (document 02, §1), every ending behind every kind of words (§2), every flip word
-//!   from every flip (§4), and status asked by broadcast in every form (§5).
+//!   from every flip (§4), status asked by broadcast in every form (§5), and the codes of the remote
+//!   control (§6).
 //!
 //! The generator knows what the documents accept, so that most of its messages get past the first
 //! checks; it does not know, and does not use, what the answers are.
@@ -279,7 +280,6 @@ mod tests {
         assert!(count(&asked, "8") >= 50);
         assert!(count(&words::QUESTIONS, "8") >= 50);
         assert!(count(&words::NO_QUESTIONS, "6") >= 20);
-        assert!(count(&["STATget\0"], "8") >= 1);
         assert!(count(&["STATget "], "5") >= 5);
         assert!(count(&["STATget "], "4") >= 20);
         assert_eq!(count(&["STATget "], "0") + count(&["STATget "], "6"), 0);
@@ -296,6 +296,56 @@ mod tests {
             for text in texts {
                 assert!(broadcasts(&answered, text, number) >= 10, "{text:?}");
             }
+        }
+    }
+
+    /// How often this code of the remote control is answered so, with a notice or without.
+    fn presses(answered: &[(String, String)], code: u64, answer: &str) -> usize {
+        let sixteen = make::zeros_before(&code.to_string());
+        let frame = make::hex(&make::frame(b'C', b"IRCC", &sixteen));
+        let wanted = |(order, told): &&(String, String)| {
+            order.starts_with("kjw ") && order.ends_with(&frame) && told.starts_with(answer)
+        };
+        answered.iter().filter(wanted).count()
+    }
+
+    /// The front of the answer to an accepted code, of one that is refused, and of each with a
+    /// notice behind it.
+    const ACCEPTED: &str = "answer 0 reply 2A534149524343303030303030303030303030303030300A";
+    const REFUSED: &str = "answer 6 reply 2A534149524343464646464646464646464646464646460A";
+    const WITH_NOTICE: &str =
+        "answer 0 reply 2A534149524343303030303030303030303030303030300A2A534E";
+
+    #[test]
+    fn a_random_script_has_the_remote_control() {
+        let answered = answered(&random::script(3, 20_000));
+        for code in words::STATE_CODES {
+            assert!(presses(&answered, code, WITH_NOTICE) >= 5, "{code}");
+        }
+        // Louder at 100, softer at 0, and a port that is chosen: answered without a notice.
+        for code in [30, 31, 124] {
+            let alone = presses(&answered, code, ACCEPTED) - presses(&answered, code, WITH_NOTICE);
+            assert!(alone >= 1, "{code}");
+        }
+        let listed: usize = (0..=140)
+            .map(|code| presses(&answered, code, ACCEPTED))
+            .sum();
+        let unlisted: usize = (0..=140)
+            .map(|code| presses(&answered, code, REFUSED))
+            .sum();
+        assert!(listed >= 100 && unlisted >= 20, "{listed}, {unlisted}");
+    }
+
+    #[test]
+    fn the_sweep_has_the_remote_control() {
+        let answered = answered(&sweep::script());
+        for code in 0..=140 {
+            let listed = presses(&answered, code, ACCEPTED);
+            let refused = presses(&answered, code, REFUSED);
+            assert!(listed.max(refused) >= 10, "{code}");
+            assert_eq!(listed.min(refused), 0, "{code}");
+            let told = presses(&answered, code, WITH_NOTICE) > 0;
+            assert_eq!(told, words::STATE_CODES.contains(&code), "{code}");
         }
     }
 

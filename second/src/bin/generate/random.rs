@@ -546,7 +546,43 @@ impl Console {
         }
     }
 
+    /// Someone at the remote control (§6): some buttons, often near an end of the volume.
+    fn remote(&mut self) {
+        let link = self.link('K');
+        if self.rng.once_in(3) {
+            let volume = self.rng.pick(&["0", "1", "99", "100"]);
+            let set = frame(b'C', b"VOLU", &zeros_before(volume));
+            self.script.kjw(link, 512, &set);
+        }
+        for _ in 0..1 + self.rng.below(4) {
+            let area = self.area();
+            let mut message = self.remote_message();
+            if self.rng.once_in(12) {
+                self.spoil_kjw(&mut message);
+            }
+            self.script.kjw(link, area, &message);
+        }
+        self.look(link);
+    }
+
+    fn remote_message(&mut self) -> Vec<u8> {
+        let rng = &mut self.rng;
+        let code = match rng.below(12) {
+            0..=6 => rng.pick(&words::STATE_CODES),
+            7..=9 => rng.below(141) as u64,
+            10 => rng.below(100) as u64 + rng.pick(&[100, 256, 1000, 65_536, 4_294_967_296]),
+            _ => {
+                return frame(b'C', b"IRCC", rng.pick(&words::NO_CODES).as_bytes());
+            }
+        };
+        let kind = if rng.once_in(15) { b'E' } else { b'C' };
+        frame(kind, b"IRCC", &zeros_before(&code.to_string()))
+    }
+
     fn kjw(&mut self) {
+        if self.rng.once_in(5) {
+            return self.remote();
+        }
         let link = self.link('K');
         let area = self.area();
         let mut message = self.kjw_message();

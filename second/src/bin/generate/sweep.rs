@@ -8,8 +8,8 @@ use crate::make::{
 use crate::unread;
 use crate::wire;
 use crate::words::{
-    good_texts, names, BAD_ENDINGS, CHOICES, FLIPS, GOOD_ENDINGS, LEVELS, NO_QUESTIONS, QUESTIONS,
-    SHIFTS, STRANGERS, SWITCHES,
+    good_texts, names, BAD_ENDINGS, CHOICES, FLIPS, GOOD_ENDINGS, LEVELS, NO_CODES, NO_QUESTIONS,
+    QUESTIONS, SHIFTS, STATE_CODES, STRANGERS, SWITCHES,
 };
 
 /// The links of [`HOUSE`].
@@ -21,14 +21,14 @@ pub const PANELS: usize = 5;
 pub const HOUSE: &str = "box W 1 2 W 1 3 W 2 1 K 0 0 K 0 0";
 
 /// More than the sweep has.
-pub const MOST_ORDERS: usize = 80_000;
+pub const MOST_ORDERS: usize = 90_000;
 
 /// A part of the sweep: its title, and what writes it.
 type Part = (&'static str, fn(&mut Script));
 
 pub fn script() -> Vec<u8> {
     let mut script = Script::of_at_most(MOST_ORDERS);
-    let parts: [Part; 29] = [
+    let parts: [Part; 30] = [
         ("before any box", before_any_box),
         ("boxes, good and bad", boxes),
         ("links and areas", links_and_areas),
@@ -54,6 +54,7 @@ pub fn script() -> Vec<u8> {
         ("off the wire: fronts that are none", wire::near_fronts),
         ("KJW: every place of the frame", frame_places),
         ("KJW: every setting with every value", frame_values),
+        ("KJW: the remote control", remote_codes),
         ("adverts read", adverts_read),
         ("adverts written", adverts_written),
         ("the checksum test", sums),
@@ -880,6 +881,7 @@ fn frame_places(script: &mut Script) {
         frame(b'C', b"SCEN", &hashes_behind("auto24pSync")),
         frame(b'C', b"TPMU", &[b'#'; 16]),
         frame(b'E', b"VOLU", &[b'#'; 16]),
+        frame(b'C', b"IRCC", &zeros_before("30")),
     ];
     let classes = [
         0x00, 0x09, 0x0A, b' ', b'#', b'*', b'/', b'0', b'1', b'2', b'3', b'9', b':', b'A', b'C',
@@ -1023,6 +1025,113 @@ fn frame_values(script: &mut Script) {
         script.show(K);
         let zeros = format!("{scene:0<16}");
         script.kjw(K, 512, &frame(b'C', b"SCEN", zeros.as_bytes()));
+    }
+    script.show_all(PANELS);
+}
+
+/// A button of the remote control of panel K.
+fn press(script: &mut Script, code: u64) {
+    let parameters = zeros_before(&code.to_string());
+    script.kjw(K, 512, &frame(b'C', b"IRCC", &parameters));
+}
+
+fn remote_codes(script: &mut Script) {
+    let asked = [b'#'; 16];
+    let set = |script: &mut Script, four: &[u8; 4], value: &str| {
+        script.kjw(K, 512, &frame(b'C', four, &zeros_before(value)));
+    };
+    // Every number that a code could be, twice, and asked for; from the start and from elsewhere.
+    for volume in ["", "1", "50", "99", "100"] {
+        script.line(HOUSE);
+        if !volume.is_empty() {
+            for four in [b"POWR", b"AMUT", b"PMUT"] {
+                set(script, four, "1");
+            }
+            set(script, b"INPT", "300000003");
+            script.kjw(K, 512, &frame(b'C', b"SCEN", &hashes_behind("auto")));
+        }
+        for code in 0..=140 {
+            if STATE_CODES.contains(&code) && !volume.is_empty() {
+                set(script, b"VOLU", volume);
+            }
+            press(script, code);
+            script.show(K);
+            press(script, code);
+            let parameters = zeros_before(&code.to_string());
+            script.kjw(K, 512, &frame(b'E', b"IRCC", &parameters));
+            script.show(K);
+        }
+        script.show_all(PANELS);
+    }
+    // From one end of the volume to the other and on, and back.
+    script.line(HOUSE);
+    for code in [31, 30, 31] {
+        for _ in 0..103 {
+            press(script, code);
+        }
+        script.kjw(K, 512, &frame(b'E', b"VOLU", &asked));
+        script.show(K);
+    }
+    // From every type, and from the ports round the four.
+    for kind in ["1", "3", "4", "5"] {
+        for port in [1, 2, 3, 4, 5, 9999] {
+            for code in 123..=128 {
+                set(script, b"INPT", &format!("{kind}0000{port:04}"));
+                press(script, code);
+                press(script, code);
+                script.kjw(K, 512, &frame(b'E', b"INPT", &asked));
+                script.show(K);
+            }
+        }
+    }
+    // The mutes and the power, with the controls that have them too.
+    for (code, four) in [(32, b"AMUT"), (50, b"PMUT"), (98, b"POWR")] {
+        for value in ["0", "1"] {
+            set(script, four, value);
+            press(script, code);
+            set(script, four, value);
+            press(script, code);
+            press(script, code);
+            script.kjw(K, 512, &frame(b'E', four, &asked));
+            script.show(K);
+        }
+    }
+    // All sixteen digits count.
+    for code in STATE_CODES.into_iter().chain([5, 28, 130]) {
+        for larger in [100, 128, 200, 256, 1000, 65_536, 4_294_967_296] {
+            press(script, code + larger);
+        }
+        for place in 0..14 {
+            press(script, code + 10_u64.pow(15 - place));
+        }
+        for place in 1..14 {
+            press(script, code * 10_u64.pow(place));
+        }
+        for digits in [format!("{code:X}"), format!("{code:x}"), format!("#{code}")] {
+            script.kjw(K, 512, &frame(b'C', b"IRCC", &zeros_before(&digits)));
+        }
+        script.show(K);
+    }
+    for sixteen in NO_CODES {
+        for kind in [b'C', b'E'] {
+            script.kjw(K, 512, &frame(kind, b"IRCC", sixteen.as_bytes()));
+        }
+    }
+    for place in [0, 13, 14, 15] {
+        for byte in 0..=255 {
+            let mut sixteen = zeros_before("31");
+            sixteen[place] = byte;
+            script.kjw(K, 512, &frame(b'C', b"IRCC", &sixteen));
+        }
+    }
+    script.show(K);
+    // Other letters, a small area, other links.
+    let button = zeros_before("98");
+    for four in [b"ircc", b"IRCD", b"IRC ", b"CCRI", b"TRCC"] {
+        script.kjw(K, 512, &frame(b'C', four, &button));
+    }
+    for (link, area) in [(K, 511), (K, 1024), (K + 1, 512), (W, 512), (6, 512)] {
+        script.kjw(link, area, &frame(b'C', b"IRCC", &button));
     }
     script.show_all(PANELS);
 }

@@ -116,6 +116,35 @@ pub const STRANGERS: [&str; 40] = [
     "INFObutton MENU",
 ];
 
+/// The codes of the remote control that are for a state (§6).
+pub const STATE_CODES: [u64; 9] = [30, 31, 32, 50, 98, 124, 125, 126, 127];
+
+/// Sixteen places that are no sixteen decimal digits, or write another number than their end does.
+pub const NO_CODES: [&str; 22] = [
+    "################",
+    "##############30",
+    "#############098",
+    "00000000000000##",
+    "              30",
+    "0000000000000 30",
+    "0000000000000+30",
+    "0000000000000-30",
+    "000000000000x030",
+    "000000000000001E",
+    "000000000000001e",
+    "000000000000007C",
+    "000000000000003:",
+    "000000000000003/",
+    "000000000000030.",
+    "FFFFFFFFFFFFFFFF",
+    "Volume Up#######",
+    "3000000000000000",
+    "1000000000000030",
+    "0000000100000124",
+    "0000000000001030",
+    "9999999999999999",
+];
+
 /// Every name that STATget takes.
 pub fn names() -> Vec<&'static str> {
     [&LEVELS[..], &SHIFTS, &CHOICE_NAMES, &SWITCHES, &FLIPS].concat()
