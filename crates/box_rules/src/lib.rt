@@ -10,7 +10,7 @@ ghost use mathlib.Core.Path.{_≡_};
 ghost use Prim.Native.Nat.{_<_, _≤_};
 ghost use mathlib.Core.Bool.{false};
 ghost use lib.ListN.{replicate};
-ghost use Rattle.panels.specs.Valid.{okPanel, valid};
+ghost use Rattle.panels.specs.Valid.{valid};
 ghost use Rattle.box_rules.specs.Pairs.{idsOf, noIds, judged};
 ghost use Rattle.box_rules.specs.Ring.{pairAt, Sees, apartBy, allApart};
 
@@ -27,18 +27,12 @@ pub struct Judged {
     pub ids: [Ids; 8],
 }
 
-// What was seen of the panels in one walk through them: whether each is good by itself, what they are called by, and their pairs as
-// numbers, eight places and the same eight again.
+// What was seen of the panels: whether each is good by itself, what they are called by, and their pairs as numbers, eight places and
+// the same eight again.
 struct Seen {
     good: bool,
     ids: [Ids; 8],
     ring: [u16; 16],
-}
-
-// What was seen of one panel: whether it is good by itself, and what it is called by.
-struct Glance {
-    good: bool,
-    ids: Ids,
 }
 
 // What a panel is called by.
@@ -68,17 +62,8 @@ fn pair_at(d: Ids, k: usize) -> u16
     number2(g.0, u.0)
 }
 
-// One panel by itself.
-fn look_at(p: Panel) -> Glance
-    ensures { λ r. ⌜ r ≡ record { good = okPanel p; ids = idsOf p } ⌝ }
-{
-    Glance {
-        good: panel_ok(p),
-        ids: called_by(p),
-    }
-}
-
-// The first n panels, one by one. The places behind them have no panel.
+// The first n panels, one by one. The places behind them have no panel. What they are called by is gathered before each is judged:
+// the pairs are laid one by one and compared eight at once, and the machine would wait for them if the comparison followed at once.
 fn look_through(ps: [Panel; 8], n: usize) -> Seen
     requires { ⌜ n ≤ 8 ⌝ }
     ensures { λ r. ⌜ Sees ps n (r .good) (r .ids) (r .ring) ⌝ }
@@ -92,20 +77,23 @@ fn look_through(ps: [Panel; 8], n: usize) -> Seen
     let mut ring = [0, 1, 2, 3, 4, 5, 6, 7, 0, 1, 2, 3, 4, 5, 6, 7];
     let mut i = 0;
     while i < n {
-        let seen = look_at(ps[i]);
-        if !seen.good {
+        let d = called_by(ps[i]);
+        ids[i] = d;
+        let pair = pair_at(d, i);
+        ring[i] = pair;
+        ring[i + 8] = pair;
+        i += 1;
+    }
+    let mut k = 0;
+    while k < n {
+        if !panel_ok(ps[k]) {
             return Seen {
                 good: false,
                 ids,
                 ring,
             };
         }
-        let d = seen.ids;
-        ids[i] = d;
-        let pair = pair_at(d, i);
-        ring[i] = pair;
-        ring[i + 8] = pair;
-        i += 1;
+        k += 1;
     }
     Seen {
         good: true,

@@ -98,6 +98,16 @@ fn notice_of(s: State, before: KRecord, after: KRecord) -> Reply
     Reply::Changed(s)
 }
 
+// The notice of a volume. One that stays is told at once: to compare its digits both would be written first.
+fn volume_notice(before: KRecord, after: KRecord) -> Reply
+    ensures { λ r. ⌜ r ≡ noticed State.Volume before after ⌝ }
+{
+    if before.volume != after.volume {
+        return notice_of(State::Volume, before, after);
+    }
+    Reply::Accepted
+}
+
 // The reply to an order: a scene and a pass have no notice, and an enquiry is answered with its state.
 fn reply_of(o: Order, before: KRecord, after: KRecord) -> Reply
     ensures { λ r. ⌜ r ≡ replyOf o before after ⌝ }
@@ -109,9 +119,9 @@ fn reply_of(o: Order, before: KRecord, after: KRecord) -> Reply
         Order::ToggleAudioMute => notice_of(State::AudioMute, before, after),
         Order::SetPictureMute(_) => notice_of(State::PictureMute, before, after),
         Order::TogglePictureMute => notice_of(State::PictureMute, before, after),
-        Order::SetVolume(_) => notice_of(State::Volume, before, after),
-        Order::Louder => notice_of(State::Volume, before, after),
-        Order::Softer => notice_of(State::Volume, before, after),
+        Order::SetVolume(_) => volume_notice(before, after),
+        Order::Louder => volume_notice(before, after),
+        Order::Softer => volume_notice(before, after),
         Order::SetInput(_, _) => notice_of(State::Input, before, after),
         Order::SetScene(_) => Reply::Accepted,
         Order::Pass => Reply::Accepted,

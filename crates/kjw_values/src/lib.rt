@@ -3,7 +3,7 @@ use decimals::digits4;
 use panels::KRecord;
 ghost use mathlib.Core.Path.{_≡_};
 ghost use mathlib.Core.List.{_++_};
-ghost use lib.ListN.{replicate};
+ghost use lib.ListN.{getD, replicate};
 ghost use Rattle.decimals.specs.Decimals.{inDigits};
 ghost use Rattle.kjw_values.specs.Values.{switchWord, sceneWord, inputWord, valueOf};
 use kjw_sets::State;
@@ -51,13 +51,24 @@ fn volume_word(v: u8) -> [u8; 16]
     four_digits(v as u16)
 }
 
+// The last digit of a type. A good one has no other, and is not taken apart.
+fn type_digit(kind: u8) -> u8
+    ensures { λ r. ⌜ r ≡ getD (inDigits 1 kind) 0 0 ⌝ }
+{
+    if kind < 10 {
+        return b'0' + kind;
+    }
+    let d = digits4(kind as u16);
+    d[3]
+}
+
 // "Seven `0`, type [..], four `0`, port."
 fn input_word(kind: u8, port: u16) -> [u8; 16]
     ensures { λ r. ⌜ r ≡ inputWord kind port ⌝ }
 {
-    let d = digits4(kind as u16);
+    let digit = type_digit(kind);
     let mut word = four_digits(port);
-    word[7] = d[3];
+    word[7] = digit;
     word
 }
 

@@ -55,39 +55,50 @@ fn inputs_ok(i: Inputs) -> bool
     are_within(&on, &ones)
 }
 
+// Here and in what follows on the white balance one flag is lowered and there is no way out: a box is judged at every message, and so
+// the compiler asks all three numbers at once.
 fn gains_ok(g: [u16; 3]) -> bool
     ensures { λ r. ⌜ r ≡ every okGain g ⌝ }
 {
+    let mut ok = true;
     if 4095 < g[0] {
-        return false;
+        ok = false;
     }
     if 4095 < g[1] {
-        return false;
+        ok = false;
     }
-    g[2] <= 4095
+    if 4095 < g[2] {
+        ok = false;
+    }
+    ok
 }
 
 fn biases_ok(z: [i16; 3]) -> bool
     ensures { λ r. ⌜ r ≡ every okBias z ⌝ }
 {
+    let mut ok = true;
     if !bias_ok(z[0]) {
-        return false;
+        ok = false;
     }
     if !bias_ok(z[1]) {
-        return false;
+        ok = false;
     }
-    bias_ok(z[2])
+    if !bias_ok(z[2]) {
+        ok = false;
+    }
+    ok
 }
 
 fn balance_ok(b: Balance) -> bool
     ensures { λ r. ⌜ r ≡ okBalance b ⌝ }
 {
     let g = b.gains;
-    if !gains_ok(g) {
-        return false;
-    }
+    let mut ok = gains_ok(g);
     let z = b.biases;
-    biases_ok(z)
+    if !biases_ok(z) {
+        ok = false;
+    }
+    ok
 }
 
 fn shifts_ok(z: [i8; 2]) -> bool

@@ -63,11 +63,11 @@ fn row_begins(s: &[u8], texts: &[u8; 416], row: usize, n: usize) -> bool
     requires { ⌜ (now texts ≡ rows) × ((row < 32) × (n ≤ length (textOf row))) ⌝ }
     ensures { λ r. ⌜ r ≡ begins (take n (textOf row)) (now (s .entry)) ⌝ }
 {
+    if s.len() < n {
+        return false;
+    }
     let mut j = 0;
     while j < n {
-        if s.len() <= j {
-            return false;
-        }
         if texts[row * 13 + j] != s[j] {
             return false;
         }

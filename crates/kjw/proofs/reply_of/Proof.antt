@@ -43,26 +43,26 @@ notice-of-requires-6 c κs = search needs
 enum-told-7 : tie.Need-enum-told-7
 enum-told-7 c = search needs
 
-notice-of-requires-7 : tie.Need-notice-of-requires-7
-notice-of-requires-7 c κs = search needs
+volume-notice-requires : tie.Need-volume-notice-requires
+volume-notice-requires c κs = search needs
 
 enum-told-8 : tie.Need-enum-told-8
 enum-told-8 c = search needs
 
-notice-of-requires-8 : tie.Need-notice-of-requires-8
-notice-of-requires-8 c κs = search needs
+volume-notice-requires-2 : tie.Need-volume-notice-requires-2
+volume-notice-requires-2 c κs = search needs
 
 enum-told-9 : tie.Need-enum-told-9
 enum-told-9 c = search needs
 
-notice-of-requires-9 : tie.Need-notice-of-requires-9
-notice-of-requires-9 c κs = search needs
+volume-notice-requires-3 : tie.Need-volume-notice-requires-3
+volume-notice-requires-3 c κs = search needs
 
 enum-told-10 : tie.Need-enum-told-10
 enum-told-10 c = search needs
 
-notice-of-requires-10 : tie.Need-notice-of-requires-10
-notice-of-requires-10 c κs = search needs
+notice-of-requires-7 : tie.Need-notice-of-requires-7
+notice-of-requires-7 c κs = search needs
 
 enum-told-11 : tie.Need-enum-told-11
 enum-told-11 c = search needs
@@ -99,19 +99,19 @@ returns-6 c = rw (c .before .enum-told6 .given .1) (c .notice-of6 .ensures)
 
 returns-7 : tie.Need-returns-7
 unfolding replyOf
-returns-7 c = rw (c .before .enum-told7 .given .1) (c .notice-of7 .ensures)
+returns-7 c = rw (c .before .enum-told7 .given .1) (c .volume-notice .ensures)
 
 returns-8 : tie.Need-returns-8
 unfolding replyOf
-returns-8 c = rw (c .before .enum-told8 .given .1) (c .notice-of8 .ensures)
+returns-8 c = rw (c .before .enum-told8 .given .1) (c .volume-notice2 .ensures)
 
 returns-9 : tie.Need-returns-9
 unfolding replyOf
-returns-9 c = rw (c .before .enum-told9 .given .1) (c .notice-of9 .ensures)
+returns-9 c = rw (c .before .enum-told9 .given .1) (c .volume-notice3 .ensures)
 
 returns-10 : tie.Need-returns-10
 unfolding replyOf
-returns-10 c = rw (c .before .enum-told10 .given .1) (c .notice-of10 .ensures)
+returns-10 c = rw (c .before .enum-told10 .given .1) (c .notice-of7 .ensures)
 
 returns-11 : tie.Need-returns-11
 unfolding replyOf
@@ -142,13 +142,13 @@ reply-of-spec =
     enum-told-6
     notice-of-requires-6
     enum-told-7
-    notice-of-requires-7
+    volume-notice-requires
     enum-told-8
-    notice-of-requires-8
+    volume-notice-requires-2
     enum-told-9
-    notice-of-requires-9
+    volume-notice-requires-3
     enum-told-10
-    notice-of-requires-10
+    notice-of-requires-7
     enum-told-11
     enum-told-12
     enum-known-o

@@ -1,14 +1,16 @@
--- `row_begins` walks the row and s: before j all bytes agree, so what is left from j on decides.
+-- `row_begins` asks the length, then walks the row and s: before j all bytes agree, so what is left from j on decides.
 use Prim.Native.Nat.{ℕ, _+_, _-_, _*_, _<_, _≤_}
+use mathlib.Core.Bool.{false, and-false}
 use mathlib.Core.Path.{_≡_, refl, sym, ap, _∙_}
-use mathlib.Core.List.{List}
+use mathlib.Core.List.{List, [], _∷_}
+use lib.Dec.{eqb}
 use lib.ListN.{length, getD, take, drop}
 use lib.Seq.{getD-take, length-take-le}
 use borrow.Author.Tests.{eq-eqb, ne-eqb}
 use borrow.Author.Needs.{needs}
 use native.Mathlib.Omega.{arith}
 use Rattle.laws.specs.Bytes.{begins}
-use Rattle.laws.proofs.Texts.{begins-from, begins-ended, begins-whole}
+use Rattle.laws.proofs.Texts.{begins-from, begins-whole}
 use Rattle.setting_texts.specs.Rows.{textOf, rows}
 use Rattle.setting_texts.proofs.Rules.{text-short}
 use Rattle.setting_words.proofs.Rules.{byte-is}
@@ -29,14 +31,19 @@ inside row n j h l = rw (length-take-le n (textOf row) h) l
 byte : (texts : List ℕ) (row n j : ℕ) → texts ≡ rows → row < 32 → n ≤ length (textOf row) → j < n → getD texts (row * 13 + j) 0 ≡ getD (take n (textOf row)) j 0
 byte texts row n j e r h l = ap (λ (t : List ℕ). getD t (row * 13 + j) 0) e ∙ byte-is row j r (omega arith) ∙ sym (getD-take n (textOf row) j 0 l)
 
-loop-holds : tie.Need-loop-holds Inv-loop μ-loop
-loop-holds c = (search needs, refl)
+-- what is longer than s does not begin it
+longer : (p s : List ℕ) → length s < length p → begins p s ≡ false
+longer [] s h = absurd (omega arith)
+longer (x ∷ p) [] h = refl
+longer (x ∷ p) (y ∷ s) h = rw (longer p s (omega arith)) (and-false (eqb x y))
 
 returns : tie.Need-returns Inv-loop μ-loop
 returns c =
-    let l = c .before .before in
-    let a = l .before .args in
-    sym (l .loop .inv .1 ∙ begins-ended (take (a .n) (textOf (a .row))) (a .s .now) (l .loop .j) (inside (a .row) (a .n) (l .loop .j) (l .before .pre .1 .1) (c .before .loop-test .taken)) (c .if1 .taken))
+    let a = c .before .args in
+    sym (longer (take (a .n) (textOf (a .row))) (a .s .now) (rw (length-take-le (a .n) (textOf (a .row)) (c .before .pre .1 .1)) (c .if1 .taken)))
+
+loop-holds : tie.Need-loop-holds Inv-loop μ-loop
+loop-holds c = (search needs, refl)
 
 mul-if2 : tie.Need-mul-if2 Inv-loop μ-loop
 mul-if2 c = search needs
@@ -58,12 +65,15 @@ shared-slice-read-if2 c = search needs
 
 returns-2 : tie.Need-returns-2 Inv-loop μ-loop
 returns-2 c =
-    let l = c .before .before .before .before .before in
-    let a = l .before .args in
+    let l = c .before .before .before .before in
+    let f = l .before .before in
+    let a = f .args in
     let t = take (a .n) (textOf (a .row)) in
-    let h = inside (a .row) (a .n) (l .loop .j) (l .before .pre .1 .1) (c .before .before .before .before .loop-test .taken) in
-    let b = byte (a .texts .now) (a .row) (a .n) (l .loop .j) (l .before .pre .0) (l .before .pre .1 .0) (l .before .pre .1 .1) (c .before .before .before .before .loop-test .taken) in
-    sym (l .loop .inv .1 ∙ begins-from t (a .s .now) (l .loop .j) h (c .before .before .before .if1 .left) ∙ rw (ne-eqb (getD t (l .loop .j) 0) (getD (a .s .now) (l .loop .j) 0) (λ e. c .if2 .taken (b ∙ e))))
+    let at = c .before .before .before .loop-test .taken in
+    let h = inside (a .row) (a .n) (l .loop .j) (f .pre .1 .1) at in
+    let k : l .loop .j < length (a .s .now) = omega arith in
+    let b = byte (a .texts .now) (a .row) (a .n) (l .loop .j) (f .pre .0) (f .pre .1 .0) (f .pre .1 .1) at in
+    sym (l .loop .inv .1 ∙ begins-from t (a .s .now) (l .loop .j) h k ∙ rw (ne-eqb (getD t (l .loop .j) 0) (getD (a .s .now) (l .loop .j) 0) (λ e. c .if2 .taken (b ∙ e))))
 
 add-j : tie.Need-add-j Inv-loop μ-loop
 add-j c = search needs
@@ -73,18 +83,22 @@ loop-less c = search needs
 
 loop-again : tie.Need-loop-again Inv-loop μ-loop
 loop-again c =
-    let l = c .before .before .before .before .before in
-    let a = l .before .args in
+    let l = c .before .before .before .before in
+    let f = l .before .before in
+    let a = f .args in
     let t = take (a .n) (textOf (a .row)) in
-    let h = inside (a .row) (a .n) (l .loop .j) (l .before .pre .1 .1) (c .before .before .before .before .loop-test .taken) in
-    let b = byte (a .texts .now) (a .row) (a .n) (l .loop .j) (l .before .pre .0) (l .before .pre .1 .0) (l .before .pre .1 .1) (c .before .before .before .before .loop-test .taken) in
-    (search needs, l .loop .inv .1 ∙ begins-from t (a .s .now) (l .loop .j) h (c .before .before .before .if1 .left) ∙ rw (eq-eqb (getD t (l .loop .j) 0) (getD (a .s .now) (l .loop .j) 0) (sym b ∙ c .if2 .left)))
+    let at = c .before .before .before .loop-test .taken in
+    let h = inside (a .row) (a .n) (l .loop .j) (f .pre .1 .1) at in
+    let k : l .loop .j < length (a .s .now) = omega arith in
+    let b = byte (a .texts .now) (a .row) (a .n) (l .loop .j) (f .pre .0) (f .pre .1 .0) (f .pre .1 .1) at in
+    (search needs, l .loop .inv .1 ∙ begins-from t (a .s .now) (l .loop .j) h k ∙ rw (eq-eqb (getD t (l .loop .j) 0) (getD (a .s .now) (l .loop .j) 0) (sym b ∙ c .if2 .left)))
 
 returns-3 : tie.Need-returns-3 Inv-loop μ-loop
 returns-3 c =
     let l = c .before in
-    let a = l .before .args in
-    let h : length (take (a .n) (textOf (a .row))) ≤ l .loop .j = rw (length-take-le (a .n) (textOf (a .row)) (l .before .pre .1 .1)) (omega arith) in
+    let f = l .before .before in
+    let a = f .args in
+    let h : length (take (a .n) (textOf (a .row))) ≤ l .loop .j = rw (length-take-le (a .n) (textOf (a .row)) (f .pre .1 .1)) (omega arith) in
     sym (l .loop .inv .1 ∙ begins-whole (take (a .n) (textOf (a .row))) (a .s .now) (l .loop .j) h)
 
 pub row-begins-spec : {M : Type 1} → statement M
@@ -93,8 +107,8 @@ row-begins-spec =
     (tie.spec
     Inv-loop
     μ-loop
-    loop-holds
     returns
+    loop-holds
     mul-if2
     add-if2
     element-copy-out-if2
