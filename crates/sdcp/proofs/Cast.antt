@@ -22,7 +22,7 @@ use Rattle.sdcp_asks.specs.Asks.{isOurs, isBroken, inWords, dataOf, heardOf, un
 use Rattle.sdcp_asks.specs.declared.Heard.{Heard}
 use Rattle.sdcp_asks.specs.declared.Heard.the-variants.{Refused, Broken, NotUnderstood, Understood}
 use Rattle.sdcp_asks.proofs.Cast.{cast-plain, cast-heard}
-use Rattle.sdcp.specs.Replies.{turned, turnOf, castTurnOf}
+use Rattle.sdcp.specs.Replies.{turned, castTurnOf}
 use Rattle.sdcp.proofs.Validity.{turned-valid}
 
 -- a packet that is understood has words that are

@@ -2,10 +2,9 @@
 -- was heard.
 use Prim.Native.Nat.{ℕ, _<_, _≤_}
 use mathlib.Core.Path.{_≡_, refl, ap, _∙_}
-use mathlib.Core.Bool.{Bool, true, false, not}
-use mathlib.Core.List.{List, []}
+use mathlib.Core.Bool.{Bool, true, false}
+use mathlib.Core.List.{List}
 use native.Mathlib.Omega.{arith}
-use lib.Dec.{ltb}
 use lib.ListN.{length, drop-of-length-le}
 use borrow.Author.Tests.{le-ltb}
 use Rattle.terms.specs.declared.Answer.the-variants.{StatusByBroadcast}

@@ -1,36 +1,31 @@
 -- What was said to be done is kept: the panel that takes its turn keeps it by its protocol's own theorem, and the next question asks that panel.
 use Prim.Native.Nat.{ℕ, _+_, _<_}
 use mathlib.Core.Path.{_≡_, sym, ap, subst, _∙_}
-use mathlib.Core.Bool.{true, not}
+use mathlib.Core.Bool.{true}
 use mathlib.Core.List.{List}
 use native.Mathlib.Omega.{arith}
-use lib.Dec.{ltb}
 use lib.IntN.{ℤ, pos}
 use lib.ListN.{length, getD}
 use lib.Seq.{getD-set-same}
-use Rattle.laws.proofs.Conditions.{passed}
-use Rattle.terms.specs.declared.Answer.the-variants.{Done, WrongLength, NotForUs}
+use Rattle.terms.specs.declared.Answer.the-variants.{Done}
 use Rattle.settings.specs.Table.{flipPlace, placeCount}
 use Rattle.turns.specs.Turns.{Turn, taken}
 use Rattle.panels.specs.declared.Panel.{Panel}
 use Rattle.panels.specs.declared.WRecord.{WRecord}
 use Rattle.panels.specs.declared.DisplayBox.{DisplayBox}
 use Rattle.vmc.specs.Orders.{flipOf, flippedTo, valueAt, carried, saysOf}
-use Rattle.vmc_asks.specs.Asks.{readData}
 use Rattle.vmc_tells.specs.Texts.{textOf, setWords, moveWords}
 use Rattle.vmc_asks.specs.declared.Order.{Order}
 use Rattle.vmc_asks.specs.declared.Order.the-variants.{Set, Shift, Reset, Get}
 use Rattle.vmc_tells.specs.declared.Says.{Says}
 use Rattle.vmc_tells.specs.declared.Says.the-variants.{Value, Offset}
-use Rattle.vmc_asks.specs.declared.Words.{Words}
-use Rattle.vmc_asks.specs.declared.Words.the-variants.{Understood as UnderstoodWords, NotUnderstood as NotUnderstoodWords}
 use Rattle.vmc.proofs.Flip.{isFlip, flip-from, flip-below, own-value, flip-assigned, assigned-at}
 use Rattle.vmc.proofs.Validity.{understood-fits}
 use Rattle.vmc.proofs.AskedBack.{set-told, others-told, shift-told, reset-told}
-use Rattle.sdcp_asks.specs.Asks.{isOurs, isBroken, inWords, dataOf, heardOf}
+use Rattle.sdcp_asks.specs.Asks.{dataOf, heardOf}
 use Rattle.sdcp.specs.Replies as packets
 use Rattle.sdcp.proofs.Cast.{heard-words}
-use Rattle.sdcp_asks.specs.declared.Heard.the-variants.{Refused, Broken, Understood}
+use Rattle.sdcp_asks.specs.declared.Heard.the-variants.{Understood}
 use Rattle.sdcp.specs.declared.Reply.the-variants.{Ok}
 use Rattle.steps.specs.Messages.{Message, tcp, names}
 use Rattle.steps.specs.Addressing.{addressed}

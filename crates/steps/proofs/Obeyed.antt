@@ -18,7 +18,6 @@ use Rattle.vmc.specs.Orders as words
 use Rattle.vmc_asks.specs.declared.Order as wordOrder
 use Rattle.sdcp_asks.specs.Asks as packetAsks
 use Rattle.sdcp.specs.Replies as packets
-use Rattle.sdcp_asks.specs.declared.Heard as packetHeard
 use Rattle.sdcp_asks.specs.declared.Heard.the-variants as packetIs
 use Rattle.sdcp_asks.proofs.Cast.{cast-heard}
 use Rattle.sdcp.proofs.Cast.{cast-carries}

@@ -17,7 +17,7 @@ use Rattle.vmc_asks.specs.Asks.{asksStatus}
 use Rattle.sdcp_asks.specs.Asks.{isOurs, isBroken, dataOf}
 use Rattle.steps.specs.Messages.{udp, names}
 use Rattle.steps.specs.Addressing.{addressed, anyCalled}
-use Rattle.steps.specs.Step.{nothing, Outcome, Back, refused, step}
+use Rattle.steps.specs.Step.{Back, refused, step}
 use Rattle.steps.proofs.Addressed.{foreign-udp}
 use Rattle.steps.proofs.Refusals.{refused-leaves, udp-quiet}
 use Rattle.steps.proofs.Checks.{checked}

@@ -12,7 +12,7 @@ use Rattle.panels.specs.Records.{startW}
 use Rattle.panels.specs.declared.WRecord.{WRecord}
 use Rattle.settings.specs.Table.{flipPlace}
 use Rattle.setting_words.specs.Names.{namedBy, ledBy, chosenBy}
-use Rattle.vmc.specs.Orders.{withSettings, flippedTo, flipSays, assigned, valueAt, carried, saysOf}
+use Rattle.vmc.specs.Orders.{withSettings, carried, saysOf}
 use Rattle.trimming.specs.Trimming.{unterminated, unspaced, trimmed}
 use Rattle.vmc_asks.specs.Asks.{shiftOrder, valueOrder, readSet, readGet, readWords, readData}
 use Rattle.vmc_tells.specs.Texts.{valueWords, shiftWords, setWords, moveWords, textOf}

@@ -1,5 +1,5 @@
 -- `look_through` gathers, then judges: before i all panels are laid at their places, and before k all are good, so what is left decides.
-use Prim.Native.Nat.{_+_, _-_, _<_, _≤_}
+use Prim.Native.Nat.{_-_, _<_, _≤_}
 use mathlib.Core.Path.{_≡_, refl, sym, ap, _∙_}
 use lib.ListN.{length, length-set, take, drop}
 use borrow.Author.Tests.{not-true, not-false}

@@ -1,5 +1,5 @@
 -- `volume_notice` leaves the digits unwritten where the number stays: then they are the same.
-use mathlib.Core.Path.{_≡_, sym, ap}
+use mathlib.Core.Path.{_≡_, sym}
 use borrow.Author.Needs.{needs}
 use Rattle.laws.proofs.Lists.{same-self}
 use Rattle.decimals.specs.Decimals.{inDigits}

@@ -1,5 +1,5 @@
 -- `balance_ok` asks gains and biases, and lowers its flag at the biases.
-use mathlib.Core.Path.{sym, _∙_}
+use mathlib.Core.Path.{sym}
 use mathlib.Core.Bool.{and-true, and-false}
 use borrow.Author.Tests.{not-true, not-false}
 use borrow.Author.Needs.{needs}

@@ -2,7 +2,6 @@
 use mathlib.Core.Path.{sym}
 use borrow.Author.Needs.{needs}
 use borrow.Author.Tests.{lt-ltb, le-ltb}
-use Rattle.vmc.specs.Orders.{assigned}
 use Rattle.vmc.proofs.assign.Statement.{statement}
 use Rattle.vmc.proofs.assign.Tie as tie
 

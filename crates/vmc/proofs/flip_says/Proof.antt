@@ -1,7 +1,6 @@
 -- `flip_says` asks whether the word's flip is the one in force, as the definition does.
 use mathlib.Core.Path.{sym}
 use borrow.Author.Tests.{eq-eqb, ne-eqb}
-use Rattle.vmc.specs.Orders.{flipSays}
 use Rattle.vmc.proofs.flip_says.Statement.{statement}
 use Rattle.vmc.proofs.flip_says.Tie as tie
 

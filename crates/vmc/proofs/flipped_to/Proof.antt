@@ -1,7 +1,6 @@
 -- `flipped_to` asks for ON, then whether the word's flip is in force, as the definition does.
 use mathlib.Core.Path.{sym}
 use borrow.Author.Tests.{eq-eqb, ne-eqb}
-use Rattle.vmc.specs.Orders.{flippedTo}
 use Rattle.vmc.proofs.flipped_to.Statement.{statement}
 use Rattle.vmc.proofs.flipped_to.Tie as tie
 

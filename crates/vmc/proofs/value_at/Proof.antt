@@ -2,7 +2,6 @@
 use mathlib.Core.Path.{sym, _∙_}
 use borrow.Author.Needs.{needs}
 use borrow.Author.Tests.{lt-ltb, le-ltb}
-use Rattle.vmc.specs.Orders.{valueAt}
 use Rattle.vmc.proofs.value_at.Statement.{statement}
 use Rattle.vmc.proofs.value_at.Tie as tie
 
