@@ -21,8 +21,9 @@
  * that is remembered is in the struct display_box that is handed in, and of bytes
  * off a TCP link in that link's struct box_receiver. So there may be as many of
  * them as a host likes, and none knows of another. Two calls may run at the same
- * time in two threads where no area, box or receiver that one of them writes is
- * read or written by the other; calls on one box are for the host to put in order.
+ * time in two threads where no area, box, receiver or listing that one of them
+ * writes is read or written by the other; calls on one box are for the host to put
+ * in order.
  *
  * Areas. An area is a pointer and a length in bytes, in that order.
  *   - An empty area has length 0; its pointer may then be NULL.
@@ -34,18 +35,20 @@
  *   - Areas that a call only reads may overlap each other. What a call writes
  *     (the area of box_take, the out of box_advert_write, the box of box_take and
  *     box_configure, the panel of box_panel_at, the receiver and the packet of
- *     box_receive) must not overlap anything else that is handed to that call. So
- *     a message is never its own reply's area, nor a piece its own packet's.
+ *     box_receive, the listing of box_plain) must not overlap anything else that is
+ *     handed to that call. So a message is never its own reply's area, nor a piece
+ *     its own packet's, nor does a listing lie in the buffer that it lists.
  *   - The pointers are used during the call only; none is kept.
  *
- * Boxes, panels and receivers. These pointers must not be NULL, and are aligned as
- * their struct is (_Alignof(struct display_box) is 8, as of a receiver): a variable
- * of that type is, and what malloc gives is. Any bits are a box. One that breaks
- * the rules is answered as a box of no panels, and comes back bit for bit as it
- * was. Any bits are a receiver too; one that claims too much is an empty one.
+ * Boxes, panels, receivers and listings. These pointers must not be NULL, and are
+ * aligned as their struct is (_Alignof(struct display_box) is 8, as of a receiver
+ * and a listing): a variable of that type is, and what malloc gives is. Any bits
+ * are a box. One that breaks the rules is answered as a box of no panels, and comes
+ * back bit for bit as it was. Any bits are a receiver too; one that claims too much
+ * is an empty one. What a listing held is not looked at.
  *
- * Stack. A call needs at most BOX_STACK_LENGTH bytes of it, whatever is handed
- * in and however long it is.
+ * Stack. A call needs at most BOX_STACK_LENGTH bytes of it, and box_plain at most
+ * BOX_PLAIN_STACK_LENGTH, whatever is handed in and however long it is.
  *
  * Answers (document 01, "Answer numbers", and document 02): enum box_answer.
  * Checks run in the order of the numbers, but for 8, which comes between 5 and 6;
@@ -92,6 +95,9 @@ enum box_way {
  * and memset; measured on the archive (tests/c/stack.c) and rounded up.
  */
 #define BOX_STACK_LENGTH 4096
+
+/* The same of box_plain, whose two rules call each other: each entry of its list is two calls deeper. */
+#define BOX_PLAIN_STACK_LENGTH 16384
 
 /* ---- the records, as they lie in memory: no padding anywhere */
 
@@ -217,6 +223,22 @@ struct box_receiver {
     uint8_t store[BOX_PACKET_LENGTH];
 };
 
+/* The entries of a listing at most. */
+#define BOX_LISTED 64
+
+/*
+ * What box_plain lists of a buffer. Entry i, of count, is the lengths[i] bytes from
+ * starts[i] on: a packet, or the 13 bytes of an overlong header. All places behind
+ * the entries are 0. Places are counted from the buffer's front.
+ */
+struct box_listing {
+    size_t count;
+    size_t starts[BOX_LISTED];
+    size_t lengths[BOX_LISTED];
+    size_t end;     /* where an unfinished tail begins, else the buffer's length; where a 65th begins, if it stopped there */
+    size_t stopped; /* 1: it stopped at a 65th, which begins at end; else 0 */
+};
+
 /* ---- the box */
 
 /* What a message did: an answer of enum box_answer, and how many bytes of the area are the reply. */
@@ -244,6 +266,7 @@ BOX_LENGTH_IS(display_box, 472);
 BOX_LENGTH_IS(box_outcome, 16);
 BOX_LENGTH_IS(box_receiver, 520);
 BOX_LENGTH_IS(box_received, 16);
+BOX_LENGTH_IS(box_listing, 1048);
 #undef BOX_LENGTH_IS
 
 /*
@@ -350,6 +373,29 @@ void box_panel_at(const struct display_box *box, size_t link, struct box_panel *
 struct box_received box_receive(struct box_receiver *receiver,
                                 const uint8_t *piece, size_t piece_length,
                                 uint8_t packet[BOX_PACKET_LENGTH]);
+
+/*
+ * The plain reader: what stands in a whole buffer, to be followed by eye. Its list
+ * names every packet and every overlong header in the order of the bytes, and noise
+ * is what lies between them. Always gives BOX_DONE, and all of *listing is written.
+ *
+ * It finds what box_receive finds: an empty receiver that is fed the first end
+ * bytes, cut anywhere, hands out exactly the entries, in their order.
+ *
+ * With 64 entries and a whole 65th it stops at the start of that one, and the rest
+ * of the buffer is not looked at. The list goes on with a further call, whose
+ * starts count from there:
+ *
+ *     box_plain(bytes, length, &listing);
+ *     while (listing.stopped == 1) {
+ *         bytes += listing.end;
+ *         length -= listing.end;
+ *         box_plain(bytes, length, &listing);
+ *     }
+ *
+ * An unfinished 65th is a tail like any other. A tail can be as short as a last 03h.
+ */
+uint8_t box_plain(const uint8_t *buffer, size_t buffer_length, struct box_listing *listing);
 
 /* ---- adverts and checksums */
 

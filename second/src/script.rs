@@ -10,6 +10,7 @@ use crate::checksum;
 use crate::config::{configure, DisplayBox};
 use crate::message::{receive, Way};
 use crate::panel::{Connector, KSettings, Panel, Settings, WSettings};
+use crate::plain::{self, End};
 use crate::receiver::Receiver;
 use crate::vmc;
 
@@ -132,6 +133,7 @@ impl Replay {
                 text.to_string()
             }
             Order::Piece { link, area, bytes } => self.piece(link, area, &bytes),
+            Order::Plain(bytes) => list_text(&bytes),
         }
     }
 
@@ -231,6 +233,21 @@ fn fields_text(fields: &Fields) -> String {
     .join(" ")
 }
 
+/// "`plain S:L S:L .. end N`, each entry's start and length, N where the tail begins (or the buffer
+/// ends); `stop N` in place of `end N` where a 65th entry would start at N".
+fn list_text(bytes: &[u8]) -> String {
+    let list = plain::list(bytes);
+    let mut words = vec!["plain".to_string()];
+    for entry in list.entries {
+        words.push(format!("{}:{}", entry.start, entry.length));
+    }
+    words.push(match list.end {
+        End::Tail(place) => format!("end {place}"),
+        End::Stop(place) => format!("stop {place}"),
+    });
+    words.join(" ")
+}
+
 fn show(panel: &Panel) -> String {
     match &panel.settings {
         Settings::W(settings) => show_w(panel, settings),
@@ -298,6 +315,7 @@ enum Order {
         area: usize,
         bytes: Vec<u8>,
     },
+    Plain(Vec<u8>),
 }
 
 struct WriteOrder {
@@ -351,6 +369,7 @@ fn read_order(line: &[u8]) -> Option<Order> {
             area: read_area(area)?,
             bytes: read_hex(bytes)?,
         }),
+        [b"plain", bytes] => Some(Order::Plain(read_hex(bytes)?)),
         _ => None,
     }
 }

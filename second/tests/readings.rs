@@ -9,6 +9,7 @@ use second::advert::{self, Wanted};
 use second::config::{configure, DisplayBox};
 use second::flip::{Flip, FlipWord};
 use second::panel::{Connector, GroupId, UnitId};
+use second::plain::{self, End};
 
 fn words(held: &mut DisplayBox, text: &[u8]) -> Told {
     tcp(held, 1, &packet(0, 0, text))
@@ -894,6 +895,31 @@ fn the_writer_and_its_refusals() {
         ..good
     };
     assert_eq!(refuse(1024, name), 3);
+}
+
+// §7: "the plain reader stops at the start of a 65th and says where". A 65th that is unfinished is the
+// tail; a stop is only for a whole one.
+#[test]
+fn the_65th_entry() {
+    let full = packet(0, 0, b"").repeat(64);
+    let mut overlong = packet(0, 0, b"");
+    overlong[11] = 0x02;
+    for last in [packet(0, 0, b"STATget LED"), packet(0, 0, b""), overlong] {
+        for noise in [&b""[..], b"A", b"\x03\x0BSON"] {
+            let start = full.len() + noise.len();
+            let buffer = [&full[..], noise, &last].concat();
+            let list = plain::list(&buffer);
+            assert_eq!(list.entries.len(), 64);
+            assert_eq!(list.end, End::Stop(start));
+            for cut in 1..last.len() {
+                let list = plain::list(&buffer[..start + cut]);
+                assert_eq!(list.entries.len(), 64);
+                assert_eq!(list.end, End::Tail(start));
+            }
+        }
+    }
+    let list = plain::list(&[&full[..], b"noise"].concat());
+    assert_eq!((list.entries.len(), list.end), (64, End::Tail(837)));
 }
 
 // `advert` prints the product's bytes as they are; an empty product gives `product ` and the

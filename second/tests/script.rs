@@ -43,7 +43,7 @@ fn the_last_line_may_lack_its_end() {
 
 #[test]
 fn lines_that_are_unread() {
-    let lines: [&[u8]; 54] = [
+    let lines: [&[u8]; 60] = [
         b" ",
         b" show 1",
         b"show 1 ",
@@ -96,7 +96,13 @@ fn lines_that_are_unread() {
         b"piece 1 512 --",
         b"Piece 1 512 -",
         b"pieces 1 512 -",
-        b"plain -",
+        b"plain",
+        b"plain 0",
+        b"plain - -",
+        b"plain 1 -",
+        b"Plain -",
+        b"plains -",
+        b"busy 1",
         b"write 122 11 - 0 0 - 0 0 0 0 0 0 - - 1",
     ];
     for line in lines {
@@ -245,6 +251,55 @@ fn the_longest_piece() {
     );
 }
 
+// "`plain S:L S:L .. end N`, each entry's start and length, N where the tail begins (or the buffer
+// ends); `stop N` in place of `end N` where a 65th entry would start at N".
+#[test]
+fn what_plain_writes() {
+    let empty = "030B534F4E59000000B0000000";
+    let overlong = "030b534f4e59000000b00001f4";
+    for (bytes, text) in [
+        ("-", "plain end 0\n"),
+        ("FF", "plain end 1\n"),
+        ("FF03", "plain end 1\n"),
+        (SET, "plain 0:30 end 30\n"),
+        (&format!("{SET}FF{SET}030B"), "plain 0:30 31:30 end 61\n"),
+        (&format!("{overlong}{SET}"), "plain 0:13 13:30 end 43\n"),
+        (&SET[..58], "plain end 0\n"),
+    ] {
+        assert_eq!(answers(format!("plain {bytes}\n").as_bytes()), text);
+    }
+    let full: String = (0..64).map(|place| format!(" {}:13", 13 * place)).collect();
+    for (count, behind, end) in [
+        (64, "", "end 832"),
+        (64, "FF", "end 833"),
+        (64, &empty[..24], "end 832"),
+        (64, "FF03", "end 833"),
+        (65, "", "stop 832"),
+        (66, "FF03", "stop 832"),
+        (78, &empty[..20], "stop 832"),
+    ] {
+        let script = format!("plain {}{behind}\n", empty.repeat(count));
+        let text = format!("plain{full} {end}\n");
+        assert_eq!(answers(script.as_bytes()), text);
+    }
+    let longer = format!("plain {}{}\n", empty.repeat(78), &empty[..22]);
+    assert_eq!(answers(longer.as_bytes()), "unread\n");
+}
+
+// `plain` takes nothing from the receivers and the box, and leaves them alone.
+#[test]
+fn plain_stands_beside_the_receivers() {
+    let (first, last) = SET.split_at(20);
+    let script = format!(
+        "box W 1 1\npiece 1 512 {first}\nplain {last}\nplain {SET}\nshow 1\npiece 1 512 {last}\n"
+    );
+    let record = AT_START.replace("W 1 2", "W 1 1");
+    let text = format!(
+        "box 0\nheld 10\nplain end 20\nplain 0:30 end 30\n{record}packet {SET}\n{OK}\nheld 0\n"
+    );
+    assert_eq!(answers(script.as_bytes()), text);
+}
+
 #[test]
 fn any_bytes_are_answered_without_a_panic() {
     let mut state: u32 = 1;
@@ -268,6 +323,7 @@ fn any_bytes_are_answered_without_a_panic() {
         "show",
         "sum",
         "piece 1 512",
+        "plain",
     ] {
         for byte in (0..=255).filter(|byte| *byte != b'\n' && *byte != b'-') {
             let line = [order.as_bytes(), b" ", &[byte]].concat();

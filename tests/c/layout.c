@@ -3,8 +3,9 @@
  * where a size, an offset or the meaning of a byte drifts. First what the
  * compiler sees, the sizes and offsets as sums of what stands before. Then what
  * the archive does: where the start values stand, which bytes a message sets,
- * which bytes are judged, and which bytes a piece sets in a receiver. What is
- * expected is document 01's, and of receivers and the flip document 02's.
+ * which bytes are judged, which bytes a piece sets in a receiver, and which a
+ * buffer sets in a listing. What is expected is document 01's, and of receivers,
+ * listings and the flip document 02's.
  */
 #include "areas.h"
 #include "messages.h"
@@ -76,6 +77,15 @@ _Static_assert(_Alignof(struct box_receiver) == 8, "a receiver is aligned as its
 AT(box_received, taken, 0);
 AT(box_received, length, 8);
 SIZE(box_received, 8 + 8);
+
+_Static_assert(BOX_LISTED == 64, "entries of a listing");
+AT(box_listing, count, 0);
+AT(box_listing, starts, 8);
+AT(box_listing, lengths, 8 + 64 * 8);
+AT(box_listing, end, 8 + 64 * 8 + 64 * 8);
+AT(box_listing, stopped, 8 + 64 * 8 + 64 * 8 + 8);
+SIZE(box_listing, 8 + 64 * 8 + 64 * 8 + 8 + 8);
+_Static_assert(_Alignof(struct box_listing) == 8, "a listing is aligned as its numbers");
 
 /* ---- the fields of a panel */
 
@@ -600,6 +610,43 @@ static void receivers_claim(void)
     }
 }
 
+/* ---- the bytes of a listing */
+
+/*
+ * So many packets, each a byte longer than the one before, behind so much noise that
+ * a start needs three bytes. Every byte of the listing is written, whatever it held:
+ * each number stands where C has it, and there are zeros behind the entries.
+ */
+static void lists(size_t packets, uint8_t held)
+{
+    static uint8_t buffer[70000 + 65 * 512];
+    uint8_t want[8 + 64 * 8 + 64 * 8 + 8 + 8] = { 0 };
+    struct box_listing listing;
+    size_t at = 70000, end = 0;
+    memset(buffer, 'n', at);
+    for (size_t i = 0; i < packets; i++) {
+        size_t data = 240 + i, length = 13 + data;
+        if (i < 64) {
+            lay_number(want + 8 + 8 * i, at);
+            lay_number(want + 8 + 64 * 8 + 8 * i, length);
+        } else {
+            end = at;
+        }
+        memcpy(buffer + at, "\x03\x0BSONY\x00\x00\x00\xB0\x00", 11);
+        buffer[at + 11] = (uint8_t)(data / 256);
+        buffer[at + 12] = (uint8_t)(data % 256);
+        memset(buffer + at + 13, 'd', data);
+        at += length;
+    }
+    lay_number(want, packets < 64 ? packets : 64);
+    lay_number(want + 8 + 64 * 8 + 64 * 8, packets > 64 ? end : at);
+    lay_number(want + 8 + 64 * 8 + 64 * 8 + 8, packets > 64);
+    memset(&listing, held, sizeof listing);
+    int answer = box_plain(buffer, at, &listing);
+    expect(answer == 0, "a list is answered 0", answer, (long)packets);
+    expect(memcmp(&listing, want, sizeof want) == 0, "a listing's bytes", (long)packets, held);
+}
+
 int main(void)
 {
     static const char *const mixed[] = { "WKWKWKWK", "KWKWKWKW" };
@@ -614,5 +661,9 @@ int main(void)
     judges_pairs();
     receivers_hold();
     receivers_claim();
+    for (size_t packets = 0; packets <= 65; packets++) {
+        lists(packets, 0x00);
+        lists(packets, 0xFF);
+    }
     return verdict();
 }

@@ -19,7 +19,7 @@
 
 static struct display_box *the_box;
 static struct box_receiver *receivers[LINKS];
-static struct place box_place, bytes_place, area_place, panel_place, text_places[4], receiver_places[LINKS], piece_place, packet_place;
+static struct place box_place, bytes_place, area_place, panel_place, text_places[4], receiver_places[LINKS], piece_place, packet_place, listing_place;
 
 /* ---- the words of a line */
 
@@ -156,6 +156,21 @@ static bool piece(char **words, size_t n)
     return true;
 }
 
+static bool plain(char **words, size_t n)
+{
+    struct bytes b;
+    (void)n;
+    if (!hex(words[1], &b))
+        return false;
+    struct box_listing *l = stand_filled(&listing_place, 0xA5, sizeof *l);
+    box_plain(stand_copy(&bytes_place, b.at, b.length), b.length, l);
+    printf("plain");
+    for (size_t i = 0; i < l->count && i < BOX_LISTED; i++)
+        printf(" %zu:%zu", l->starts[i], l->lengths[i]);
+    printf(" %s %zu\n", l->stopped == 0 ? "end" : "stop", l->end);
+    return true;
+}
+
 static bool udp(char **words, size_t n)
 {
     struct bytes m;
@@ -259,7 +274,7 @@ static bool is_order(char *line)
         { "box", 1, MOST_WORDS, box }, { "rs232", 4, 4, rs232 },   { "kjw", 4, 4, kjw },
         { "tcp", 4, 4, tcp },          { "udp", 2, 2, udp },       { "show", 2, 2, show },
         { "advert", 2, 2, advert },    { "write", 17, 17, write_advert }, { "sum", 2, 2, sum },
-        { "piece", 4, 4, piece },
+        { "piece", 4, 4, piece },      { "plain", 2, 2, plain },
     };
     char *words[MOST_WORDS];
     size_t n = words_of(line, words);

@@ -24,12 +24,14 @@ static struct {
     struct box_panel panel;
     struct box_receiver receiver;
     uint8_t packet[BOX_PACKET_LENGTH];
+    struct box_listing listing;
 } given;
 
 static void take(void) { box_take(&given.box, given.way, given.link, given.bytes, given.length, given.area, given.room); }
 static void configure(void) { box_configure(&given.box, given.bytes, given.length); }
 static void show(void) { box_panel_at(&given.box, given.link, &given.panel); }
 static void receive(void) { box_receive(&given.receiver, given.bytes, given.length, given.packet); }
+static void list(void) { box_plain(given.bytes, given.length, &given.listing); }
 static void sum(void) { box_checksum_ok(given.bytes, given.length); }
 static void read_advert(void) { box_advert_read(given.bytes, given.length); }
 
@@ -43,10 +45,10 @@ static void write_advert(void)
 
 /* ---- how deep they go */
 
-static uint8_t stack[4 * BOX_STACK_LENGTH];
+static uint8_t stack[2 * BOX_PLAIN_STACK_LENGTH];
 static void (*called)(void);
 static uint8_t *from;
-static size_t deepest;
+static size_t deepest, deepest_list;
 
 static void enter(void)
 {
@@ -70,10 +72,11 @@ static void measure(uint8_t paint)
         exit(2);
     while (kept < sizeof stack && stack[kept] == paint)
         kept++;
-    size_t depth = (size_t)(from - stack) - kept;
-    expect(depth <= BOX_STACK_LENGTH, "bytes of stack, and those of the header", (long)depth, BOX_STACK_LENGTH);
-    if (depth > deepest)
-        deepest = depth;
+    size_t depth = (size_t)(from - stack) - kept, most = called == list ? BOX_PLAIN_STACK_LENGTH : BOX_STACK_LENGTH;
+    size_t *record = called == list ? &deepest_list : &deepest;
+    expect(depth <= most, "bytes of stack, and those of the header", (long)depth, (long)most);
+    if (depth > *record)
+        *record = depth;
 }
 
 static void makes(void (*call)(void))
@@ -215,6 +218,31 @@ static void receives_pieces(void)
         }
 }
 
+/* So much of a part again and again; few bytes and very many. */
+static void lists(const void *part, size_t n)
+{
+    static const size_t lengths[] = { 0, 1, 13, 30, 64 * 13, 65 * 13, LONGEST };
+    for (size_t i = 0; i < LONGEST; i++)
+        given.bytes[i] = ((const uint8_t *)part)[i % n];
+    for (size_t i = 0; i < LENGTH_OF(lengths); i++) {
+        given.length = lengths[i];
+        randomise(&given.listing, sizeof given.listing);
+        makes(list);
+    }
+}
+
+/* A full list is the deepest: of packets, of overlong headers, with noise between them or none. Noise alone is passed over by a loop. */
+static void lists_buffers(void)
+{
+    lists("\x03\x0BSONY\x00\x00\x00\xB0\x00\x00\x00", 13);
+    lists("\x03\x0BSONY\x00\x00\x00\xB0\x00\x00\x02hi..", 17);
+    lists("\x03\x0BSONY\x00\x00\x00\xB0\x00\xFF\xFF", 13);
+    lists("\x03\x0BSONY\x00\x00\x00\xB0\x00\x01\xF4 \x03", 15);
+    lists("\x00", 1);
+    lists("\x03", 1);
+    lists("\x03\x0BSON", 5);
+}
+
 /* Eight panels are made; an advert is written, read and summed, whole and with a byte too many. */
 static void every_other_call(void)
 {
@@ -245,8 +273,10 @@ int main(void)
     every_message(&box);
     every_other_call();
     receives_pieces();
+    lists_buffers();
     /* a measure that sees nothing would hold every call for small: a message's box is copied */
     expect(deepest > sizeof box, "the depth is seen", (long)deepest, (long)sizeof box);
-    printf("%zu bytes of stack at the most\n", deepest);
+    expect(deepest_list > sizeof given.listing, "and that of a list", (long)deepest_list, (long)sizeof given.listing);
+    printf("%zu bytes of stack at the most, %zu for a list\n", deepest, deepest_list);
     return verdict();
 }

@@ -5,6 +5,7 @@ use mathlib.Core.List.{List}
 use Prim.Native.Nat.{ℕ}
 use Rattle.sums.specs.Sums.{sumsToZero}
 use Rattle.terms.specs.Answers.{numberOf}
+use Rattle.terms.specs.declared.Answer.the-variants.{Done}
 use Rattle.sdap.specs.Rules.{readAnswer}
 use Rattle.sdap.specs.declared.Advert.{Advert}
 use Rattle.configure.specs.Configure.{configured}
@@ -14,6 +15,8 @@ use Rattle.receiver.specs.declared.Receiver.{Receiver}
 use Rattle.receiver.specs.declared.Received.{Received}
 use Rattle.receiver.specs.Calls.{Given, Receives}
 use Rattle.receiver.proofs.Determined.{take-piece-one}
+use Rattle.reader.specs.declared.Listing.{Listing}
+use Rattle.reader.specs.Plain.{plain}
 use Rattle.host_box.specs.Called.{Called, panelBehind}
 use Rattle.host.specs.declared.Outcome.{Outcome}
 use Rattle.host.specs.declared.Handed.{Handed}
@@ -41,3 +44,6 @@ pub box-receive-one : (g : Given) (area : List ℕ) (r r′ : Receiver) (h h′ 
 box-receive-one g area r r′ h h′ x x′ p q =
     let o = take-piece-one g area (receivedOf r h) (receivedOf r′ h′) x x′ p q in
     (ap (λ (t : Received). t .after) (o .0), (ap (λ (t : Received). record { taken = t .taken; len = t .len }) (o .0), o .1))
+
+pub box-plain-one : (b : List ℕ) (l l′ : Listing) (r r′ : ℕ) → (l ≡ plain b) × (r ≡ numberOf Done) → (l′ ≡ plain b) × (r′ ≡ numberOf Done) → (l ≡ l′) × (r ≡ r′)
+box-plain-one b l l′ r r′ p q = (p .0 ∙ sym (q .0), p .1 ∙ sym (q .1))

@@ -4,6 +4,8 @@ use host_box::panel_behind;
 use host_box::take_message;
 use panels::DisplayBox;
 use panels::Panel;
+use reader::Listing;
+use reader::read_plain;
 use receiver::Receiver;
 use receiver::take_piece;
 use sdap_read::read_answer;
@@ -14,10 +16,12 @@ use terms::UnitId;
 use terms::answer_number;
 ghost use mathlib.Core.Path.{_≡_};
 ghost use Rattle.terms.specs.Answers.{numberOf};
+ghost use Rattle.terms.specs.declared.Answer.the-variants.{Done};
 ghost use Rattle.sums.specs.Sums.{sumsToZero};
 ghost use Rattle.sdap.specs.Rules.{readAnswer};
 ghost use Rattle.configure.specs.Configure.{configured};
 ghost use Rattle.receiver.specs.Calls.{given, Receives};
+ghost use Rattle.reader.specs.Plain.{plain};
 ghost use Rattle.host_box.specs.Called.{called, panelBehind};
 ghost use Rattle.host.specs.Calls.{WrittenForC, fieldsFromC, outcomeForC, receivedOf};
 
@@ -89,6 +93,16 @@ pub extern "C" fn box_receive(r: &mut Receiver, piece: &[u8], packet: &mut [u8; 
         taken: t.taken,
         len: t.len,
     }
+}
+
+// The plain reader's list of a buffer into the host's memory. It refuses nothing: "that stop is reported beside the answer 0".
+#[no_mangle]
+pub extern "C" fn box_plain(buffer: &[u8], listing: &mut Listing) -> u8
+    ensures { λ r. ⌜ (now (listing .exit) ≡ plain (now (buffer .entry))) × (r ≡ numberOf Done) ⌝ }
+{
+    let l = read_plain(buffer);
+    *listing = l;
+    0
 }
 
 // The checksum test.

@@ -13,6 +13,7 @@ use Rattle.panels.specs.Valid.{zeroIds, okFamily, okPanel, valid}
 use Rattle.receiver.specs.Stream.{agrees, noise, sizeOf, whole}
 use Rattle.receiver.specs.Calls.{holding, heldIn, handed, given}
 use Rattle.receiver.specs.Pieces.{fedBy}
+use Rattle.reader.specs.Plain.{between, noEntries, plain as listed}
 use Rattle.script_words.specs.Words.{wordsIn, numberAt, bytesIn, bytesAt}
 use Rattle.script_hex.specs.Hex.{isHexDigit, hexValue, isHex}
 use Rattle.script_words.specs.Kinds.{isFamily, isLink, isKind, shaped}
@@ -21,6 +22,7 @@ use Rattle.script_boxes.specs.Boxes.{panelsIn, configuration, configurationOf}
 use Rattle.script_text.specs.Texts.{numberText}
 use Rattle.script_answers.specs.Answers.{writes}
 use Rattle.script_bytes.specs.Bytes.{summed}
+use Rattle.script_listings.specs.Listings.{entriesText, endText, plainText}
 use Rattle.script_panels.specs.Panels.{boxed, isThere, shownAt}
 use Rattle.script_receivers.specs.Receivers.{packetsText, pieced, piecedBy}
 use Rattle.script_orders.specs.Orders.{ordered}
@@ -29,7 +31,7 @@ use Rattle.script.specs.declared.Held.{Held}
 
 -- what a line does first in a script, each definition opened
 opened : String → LineEffect
-unfolding answered carriedOut atStart onBox onLink ordered orderOf isPassedOver asksBox panelsIn panelKinds wordsIn asks orderIn shaped isKind isFamily isLink isHex isHexDigit isNumeral leadsZero upTo isDigit decimal numberAt bytesAt bytesIn hexValue writes summed sumOf shownAt isThere boxed configurationOf configuration configured asked askedAt valid okPanel okFamily zeroIds numberText plain width widthFrom inDigits piecedBy pieced packetsText fedBy given handed holding heldIn agrees noise sizeOf whole
+unfolding answered carriedOut atStart onBox onLink ordered orderOf isPassedOver asksBox panelsIn panelKinds wordsIn asks orderIn shaped isKind isFamily isLink isHex isHexDigit isNumeral leadsZero upTo isDigit decimal numberAt bytesAt bytesIn hexValue writes summed sumOf shownAt isThere boxed configurationOf configuration configured asked askedAt valid okPanel okFamily zeroIds numberText plain width widthFrom inDigits piecedBy pieced packetsText fedBy given handed holding heldIn agrees noise sizeOf whole plainText entriesText endText listed between noEntries
 opened s = answered atStart (ascii s)
 
 passed : opened "# a remark" ≡ record { held = atStart; text = [] }
@@ -43,6 +45,11 @@ no-order = refl
 a-sum : opened "sum 01fF" .text ≡ ascii "yes" ++ (0x0a ∷ [])
 unfolding opened
 a-sum = refl
+
+-- a tail of one byte, behind a byte of noise
+a-list : opened "plain 0703" .text ≡ ascii "plain end 1" ++ (0x0a ∷ [])
+unfolding opened
+a-list = refl
 
 nothing-there : opened "show 1" .text ≡ ascii "none" ++ (0x0a ∷ [])
 unfolding opened

@@ -12,7 +12,7 @@ use Rattle.script_lines.specs.Orders.{asks, panelKinds, asksBox, orderIn
 use Rattle.script_boxes.specs.Boxes.{panelsIn, configuration, configurationOf}
 use Rattle.script_lines.specs.declared.Order.{Order}
 use Rattle.script_lines.specs.declared.Order.the-variants.{OnBox, Piece}
-use Rattle.script_lines.specs.declared.BoxOrder.the-variants.{Passed, Unread, Box, Rs232, Kjw, Tcp, Udp, Show, Advert, Write, Sum}
+use Rattle.script_lines.specs.declared.BoxOrder.the-variants.{Passed, Unread, Box, Rs232, Kjw, Tcp, Udp, Show, Advert, Write, Sum, Plain}
 
 -- what the lines of a text are, one after the other
 orders : List String → List Order
@@ -26,9 +26,10 @@ read =
     "rs232 1 0 -" ∷ "kjw 4294967295 1024 00" ∷ "tcp 1 512 0aFF" ∷ "udp -" ∷
     "show 0" ∷ "advert 44" ∷ "sum 8c00" ∷
     "write 122 11 4c4d 3106846 0 - 0 0 0 0 0 0 - - 1 1" ∷
-    "piece 1 512 00" ∷ "piece 8 0 -" ∷ []
+    "piece 1 512 00" ∷ "piece 8 0 -" ∷
+    "plain -" ∷ "plain 030b" ∷ []
 
-taken : orders read ≡ map OnBox (Box ∷ Box ∷ Rs232 ∷ Kjw ∷ Tcp ∷ Udp ∷ Show ∷ Advert ∷ Sum ∷ Write ∷ []) ++ (Piece ∷ Piece ∷ [])
+taken : orders read ≡ map OnBox (Box ∷ Box ∷ Rs232 ∷ Kjw ∷ Tcp ∷ Udp ∷ Show ∷ Advert ∷ Sum ∷ Write ∷ []) ++ (Piece ∷ Piece ∷ OnBox Plain ∷ OnBox Plain ∷ [])
 unfolding read orders orderOf isPassedOver asksBox asks panelsIn panelKinds wordsIn shaped isKind isFamily isLink isHex isHexDigit isDigit upTo isNumeral leadsZero decimal orderIn
 taken = refl
 
@@ -39,9 +40,10 @@ unread =
     "box " ∷ " box" ∷ "box W 01 1" ∷ "box W 1 256" ∷ "box W 1" ∷ "box M 1 1" ∷
     "udp" ∷ "udp  00" ∷ "udp 00 " ∷ "udp 0" ∷ "udp 0g" ∷ "udp 00 00" ∷ "UDP 00" ∷ "udp\t00" ∷
     "show 4294967296" ∷ "show -1" ∷ "tcp 1 1025 00" ∷
-    "piece 0 512 00" ∷ "piece 9 512 00" ∷ "piece 01 512 00" ∷ "piece 1 1025 00" ∷ []
+    "piece 0 512 00" ∷ "piece 9 512 00" ∷ "piece 01 512 00" ∷ "piece 1 1025 00" ∷
+    "plain" ∷ "plain 0" ∷ "plain 00 00" ∷ []
 
-refused : orders unread ≡ replicate 21 (OnBox Unread)
+refused : orders unread ≡ replicate 24 (OnBox Unread)
 unfolding unread orders orderOf isPassedOver asksBox asks panelsIn panelKinds wordsIn shaped isKind isFamily isLink isHex isHexDigit isDigit upTo isNumeral leadsZero decimal orderIn
 refused = refl
 

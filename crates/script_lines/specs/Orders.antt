@@ -9,7 +9,7 @@ use Rattle.laws.specs.Bytes.{ascii, same}
 use Rattle.script_words.specs.Words.{wordsIn, wordAt}
 use Rattle.script_lines.specs.declared.Order.{Order}
 use Rattle.script_lines.specs.declared.Order.the-variants.{OnBox, Piece}
-use Rattle.script_lines.specs.declared.BoxOrder.the-variants.{Passed, Unread, Box, Rs232, Kjw, Tcp, Udp, Show, Advert, Write, Sum}
+use Rattle.script_lines.specs.declared.BoxOrder.the-variants.{Passed, Unread, Box, Rs232, Kjw, Tcp, Udp, Show, Advert, Write, Sum, Plain}
 use Rattle.script_words.specs.Kinds.{Kind, aHex, aFamily, aLink, aNumber, mostN, mostArea, shaped}
 use Rattle.script_boxes.specs.Boxes.{panelsIn}
 
@@ -65,7 +65,8 @@ orderRows =
     row "advert" (aHex ∷ []) (OnBox Advert) ∷
     row "write" writeKinds (OnBox Write) ∷
     row "sum" (aHex ∷ []) (OnBox Sum) ∷
-    row "piece" (aLink ∷ anArea ∷ aHex ∷ []) Piece ∷ []
+    row "piece" (aLink ∷ anArea ∷ aHex ∷ []) Piece ∷
+    row "plain" (aHex ∷ []) (OnBox Plain) ∷ []
 
 -- "Any other line is answered `unread`"
 unfoldable pub orderIn : List Row → List ℕ → Order

@@ -27,6 +27,7 @@ pub enum BoxOrder {
     Advert,
     Write,
     Sum,
+    Plain,
 }
 
 // The orders of a script: on the box alone, or a piece for a receiver.
@@ -89,7 +90,7 @@ const PANELS: [u32; 48] = [
 
 // The rows of the other orders: a row is a word, the kinds of the words behind it, and the order that it is. The words stand one
 // behind the other, and so do the kinds.
-const ORDERS: [Order; 9] = [
+const ORDERS: [Order; 10] = [
     Order::OnBox(BoxOrder::Rs232),
     Order::OnBox(BoxOrder::Kjw),
     Order::OnBox(BoxOrder::Tcp),
@@ -99,9 +100,10 @@ const ORDERS: [Order; 9] = [
     Order::OnBox(BoxOrder::Write),
     Order::OnBox(BoxOrder::Sum),
     Order::Piece,
+    Order::OnBox(BoxOrder::Plain),
 ];
 
-const WORDS: [u8; 37] = *b"rs232\
+const WORDS: [u8; 42] = *b"rs232\
     kjw\
     tcp\
     udp\
@@ -109,12 +111,13 @@ const WORDS: [u8; 37] = *b"rs232\
     advert\
     write\
     sum\
-    piece";
+    piece\
+    plain";
 
 // Where each word ends, behind a 0 where the first begins.
-const WORD_ENDS: [usize; 10] = [0, 5, 8, 11, 14, 18, 24, 29, 32, 37];
+const WORD_ENDS: [usize; 11] = [0, 5, 8, 11, 14, 18, 24, 29, 32, 37, 42];
 
-const KINDS: [u32; 32] = [
+const KINDS: [u32; 33] = [
     ANY, // rs232: LINK
     AREA,
     HEX,
@@ -147,10 +150,11 @@ const KINDS: [u32; 32] = [
     LINK, // piece
     AREA,
     HEX,
+    HEX, // plain
 ];
 
 // The same for the kinds.
-const KIND_ENDS: [usize; 10] = [0, 3, 6, 9, 10, 11, 12, 28, 29, 32];
+const KIND_ENDS: [usize; 11] = [0, 3, 6, 9, 10, 11, 12, 28, 29, 32, 33];
 
 // Whether a line is the order of that word, with a word of each kind behind it.
 fn is_asked(line: &[u8], word: &[u8], kinds: &[u32]) -> bool
@@ -193,7 +197,7 @@ fn order_in(line: &[u8]) -> Order
     let kind_ends = KIND_ENDS;
     let orders = ORDERS;
     let mut i = 0;
-    while i < 9 {
+    while i < 10 {
         let a = word_ends[i];
         let b = word_ends[i + 1];
         let c = kind_ends[i];

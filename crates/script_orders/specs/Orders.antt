@@ -7,14 +7,16 @@ use Rattle.panels.specs.declared.DisplayBox.{DisplayBox}
 use Rattle.steps.specs.Messages.{udp}
 use Rattle.steps.specs.Step.{step}
 use Rattle.sdap.specs.Rules.{readOf}
+use Rattle.reader.specs.Plain.{plain}
 use Rattle.script_words.specs.Words.{numberAt, bytesAt}
 use Rattle.script_words.specs.Kinds.{mostN, mostArea}
 use Rattle.script_boxes.specs.Boxes.{configurationOf}
 use Rattle.script_lines.specs.declared.BoxOrder.{BoxOrder}
-use Rattle.script_lines.specs.declared.BoxOrder.the-variants.{Passed, Unread, Box, Rs232, Kjw, Tcp, Udp, Show, Advert, Write, Sum}
+use Rattle.script_lines.specs.declared.BoxOrder.the-variants.{Passed, Unread, Box, Rs232, Kjw, Tcp, Udp, Show, Advert, Write, Sum, Plain}
 use Rattle.script_write.specs.Wanted.{wanted}
 use Rattle.script_answers.specs.Answers.{Effect, writes, filler}
 use Rattle.script_bytes.specs.Bytes.{readText, wrote, summed}
+use Rattle.script_listings.specs.Listings.{plainText}
 use Rattle.script_panels.specs.Panels.{boxed, shownAt}
 use Rattle.script_messages.specs.Messages.{messaged, spread}
 use Rattle.addresses.specs.declared.Line.the-variants as lines
@@ -32,3 +34,4 @@ ordered Show b line = writes b (shownAt b (numberAt mostN 1 line))
 ordered Advert b line = writes b (readText (readOf (bytesAt 1 line)))
 ordered Write b line = writes b (wrote (wanted line) (filler (numberAt mostArea 1 line)))
 ordered Sum b line = writes b (summed (bytesAt 1 line))
+ordered Plain b line = writes b (plainText (plain (bytesAt 1 line)))

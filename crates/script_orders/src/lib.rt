@@ -7,6 +7,7 @@ use script_bytes::answer_advert;
 use script_bytes::answer_sum;
 use script_bytes::answer_write;
 use script_lines::BoxOrder;
+use script_listings::answer_plain;
 use script_messages::answer_message;
 use script_messages::answer_udp;
 use script_panels::answer_box;
@@ -30,5 +31,6 @@ pub fn answer_order(order: BoxOrder, b: DisplayBox, line: &[u8], out: &mut [u8])
         BoxOrder::Advert => answer_advert(b, line, out),
         BoxOrder::Write => answer_write(b, line, out),
         BoxOrder::Sum => answer_sum(b, line, out),
+        BoxOrder::Plain => answer_plain(b, line, out),
     }
 }

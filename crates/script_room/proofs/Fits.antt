@@ -1,4 +1,5 @@
--- No order on the box alone writes more than there is room for: a number has at most ten digits, a name with its value twenty bytes, a reply 48.
+-- No order on the box alone writes more than there is room for: a number has at most ten digits, a name with its value twenty bytes, an
+-- entry of a list 22, a reply 48.
 use Prim.Native.Nat.{ℕ, zero, suc, _+_, _*_, _-_, _^_, _≤_}
 use mathlib.Core.Path.{_≡_, refl, ap}
 use mathlib.Core.Bool.{Bool, cond}
@@ -58,11 +59,14 @@ use Rattle.sdap.specs.Layout.{fieldsOf, noFields}
 use Rattle.sdap.specs.Rules.{readOf, readAnswer, writeAnswer, areaAfter}
 use Rattle.sdap.specs.declared.Advert.{Advert as Fields}
 use Rattle.sdap.specs.declared.Read.{Read}
+use Rattle.reader.specs.declared.Listing.{Listing}
+use Rattle.reader.specs.Plain.{plain as listed}
+use Rattle.reader.proofs.Listed.{listed-few}
 use Rattle.script_words.specs.Words.{numberAt, bytesAt}
 use Rattle.script_words.specs.Kinds.{mostN, mostArea}
 use Rattle.script_boxes.specs.Boxes.{configurationOf}
 use Rattle.script_lines.specs.declared.BoxOrder.{BoxOrder}
-use Rattle.script_lines.specs.declared.BoxOrder.the-variants.{Passed, Unread, Box, Rs232, Kjw, Tcp, Udp, Show, Advert, Write, Sum}
+use Rattle.script_lines.specs.declared.BoxOrder.the-variants.{Passed, Unread, Box, Rs232, Kjw, Tcp, Udp, Show, Advert, Write, Sum, Plain}
 use Rattle.script_text.specs.Texts.{pairs, hexText, numberText, bytesText, signedText, spoiledBy, replyText}
 use Rattle.script_show.specs.Shown.{shownNames, settingsText, wText, panelText}
 use Rattle.script_parts.specs.Parts.{onText, inputsText, sceneText, inputText, mutesText, kText}
@@ -71,6 +75,7 @@ use Rattle.script_fields.specs.Fields.{headText, addressesText, tailText, adver
 use Rattle.script_write.specs.Wanted.{wanted}
 use Rattle.script_answers.specs.Answers.{writes, filler, answerText, replied}
 use Rattle.script_bytes.specs.Bytes.{readText, filled, wrote, summed}
+use Rattle.script_listings.specs.Listings.{entryText, entriesText, endText, plainText}
 use Rattle.script_panels.specs.Panels.{boxed, isThere, shownAt}
 use Rattle.script_messages.specs.Messages.{stepped, messaged, spread}
 use Rattle.script_orders.specs.Orders.{ordered}
@@ -326,6 +331,35 @@ wrote-fits a area =
     let w = writeAnswer (length area) a in
     replied-fits w (filled w) (areaAfter w a area) (choose (λ (n : ℕ). n ≤ 122) (eqb (numberOf w) 0) 122 0 (λ e. omega arith) (λ e. omega arith))
 
+-- ---- a list of the plain reader
+
+entries-fit : (ss ls : List ℕ) → length (entriesText ss ls) ≤ 22 * length ss
+unfolding entriesText entryText
+entries-fit [] ls = omega arith
+entries-fit (s ∷ ss) [] = omega arith
+entries-fit (s ∷ ss) (l ∷ ls) =
+    let a = said-fits (ascii " ") s in
+    let b = said-fits (ascii ":") l in
+    let r = entries-fit ss ls in
+    simp length-append (omega (arith, a, b, r))
+
+end-fits : (l : Listing) → length (endText l) ≤ 16
+unfolding endText
+end-fits l =
+    let a = said-fits (ascii " end ") (l .end) in
+    let b = said-fits (ascii " stop ") (l .end) in
+    either (eqb (l .stopped) 0) (numberText (ascii " end ") (l .end)) (numberText (ascii " stop ") (l .end)) 16 (omega (arith, a)) (omega (arith, b))
+
+listed-fits : (bytes : List ℕ) → length (plainText (listed bytes)) ≤ 1500
+unfolding plainText
+listed-fits bytes =
+    let l = listed bytes in
+    let few = listed-few bytes in
+    let a = entries-fit (take (l .count) (l .starts)) (take (l .count) (l .lengths)) in
+    let t = taken-fits (l .count) (l .starts) in
+    let e = end-fits l in
+    simp length-append (omega (arith, few, a, t, e))
+
 -- ---- a reply
 
 serial-fits : (r : SerialReply) → length (serialTexts.bytesOf r) ≤ 48
@@ -428,3 +462,4 @@ order-fits Write b line =
 order-fits Sum b line =
     let s = either (sumsToZero (bytesAt 1 line)) (ascii "yes") (ascii "no") 1500 (omega arith) (omega arith) in
     writes-fit b (summed (bytesAt 1 line)) s
+order-fits Plain b line = writes-fit b (plainText (listed (bytesAt 1 line))) (listed-fits (bytesAt 1 line))

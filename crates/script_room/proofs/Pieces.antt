@@ -4,7 +4,7 @@ use Prim.Native.Nat.{ℕ, _+_, _*_, _≤_}
 use mathlib.Core.List.{List, [], _∷_, _++_}
 use native.Mathlib.Omega.{arith}
 use lib.Dec.{leb}
-use lib.ListN.{length, take, drop, length-append}
+use lib.ListN.{length, take, length-append}
 use borrow.Author.Tests.{leb-true}
 use Rattle.laws.specs.Bytes.{ascii}
 use Rattle.laws.proofs.Conditions.{choose}
@@ -16,10 +16,9 @@ use Rattle.receiver.specs.Pieces.Feeds.{last, more}
 use Rattle.receiver.proofs.Calls.{front-le, packet-le, whole-packet}
 use Rattle.receiver.proofs.Pieces.{leaves, fed-feeds}
 use Rattle.steps.specs.Step.{step}
-use Rattle.script_hex.specs.Hex.{isHex}
-use Rattle.script_words.specs.Words.{wordAt, numberAt, bytesIn, bytesAt}
+use Rattle.script_words.specs.Words.{numberAt, bytesAt}
 use Rattle.script_words.specs.Kinds.{mostLink, mostArea}
-use Rattle.script_words.proofs.Hex.{hex-fits}
+use Rattle.script_words.proofs.Hex.{bytes-most}
 use Rattle.script_lines.specs.Orders.{orderOf}
 use Rattle.script_lines.specs.declared.Order.{Order}
 use Rattle.script_lines.specs.declared.Order.the-variants.{OnBox, Piece}
@@ -38,20 +37,6 @@ use Rattle.script_room.proofs.Fits.{said-fits, told-fits, replied-short
 held-short : (r : Receiver) → length (heldIn r) ≤ 512
 unfolding heldIn
 held-short r = choose (λ (l : List ℕ). length l ≤ 512) (leb (r .held) 512) (take (r .held) (r .store)) [] (λ e. front-le (r .held) (r .store) (leb-true (r .held) 512 e)) (λ e. omega arith)
-
--- HEX is "at most 1,024 bytes"
-half : (w : List ℕ) → 2 * length (bytesIn w) ≤ length w
-unfolding bytesIn
-half [] = omega arith
-half (x ∷ []) = omega arith
-half (x ∷ y ∷ w) = let r = half w in omega (arith, r)
-
-bytes-short : (k : ℕ) (line : List ℕ) → length (bytesAt k line) ≤ 1024
-unfolding bytesAt
-bytes-short k line =
-    choose (λ (l : List ℕ). length l ≤ 1024) (isHex (wordAt k line)) (bytesIn (wordAt k line)) []
-    (λ e. let h = half (wordAt k line) in let f = hex-fits (wordAt k line) e in omega (arith, h, f))
-    (λ e. omega arith)
 
 -- ---- what is written
 
@@ -85,7 +70,7 @@ piece-fits b r line =
     let t = packets-fit link area b (fed-feeds r p) in
     let l = length-append (heldIn r) p in
     let h = held-short r in
-    let m = bytes-short 3 line in
+    let m = bytes-most 3 line in
     let word = numberText (ascii "held ") (fed r p .after .held) in
     let s = said-fits (ascii "held ") (fed r p .after .held) in
     let x = length-append word (0x0a ∷ []) in

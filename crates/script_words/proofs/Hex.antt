@@ -7,7 +7,7 @@ use native.Mathlib.Omega.{arith}
 use lib.Dec.{eqb, leb}
 use lib.ListN.{getD, length}
 use borrow.Author.Tests.{leb-true}
-use Rattle.laws.proofs.Conditions.{and-first, and-second}
+use Rattle.laws.proofs.Conditions.{and-first, and-second, choose}
 use Rattle.laws.proofs.Lists.{same-is}
 use Rattle.laws.specs.Bytes.{ascii, same}
 use Rattle.laws.specs.Lists.{every}
@@ -47,3 +47,10 @@ hex-bytes k line e = rw e
 pub no-bytes : (k : ℕ) (line : List ℕ) → isHex (wordAt k line) ≡ false → bytesAt k line ≡ []
 unfolding bytesAt
 no-bytes k line e = rw e
+
+pub bytes-most : (k : ℕ) (line : List ℕ) → length (bytesAt k line) ≤ 1024
+unfolding bytesAt
+bytes-most k line =
+    choose (λ (l : List ℕ). length l ≤ 1024) (isHex (wordAt k line)) (bytesIn (wordAt k line)) []
+    (λ e. omega (arith, pairs-length (wordAt k line), hex-fits (wordAt k line) e))
+    (λ e. omega arith)

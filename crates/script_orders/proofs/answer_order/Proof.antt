@@ -82,6 +82,12 @@ enum-told-11 c = search needs
 answer-sum-requires : tie.Need-answer-sum-requires
 answer-sum-requires c κs = search needs
 
+enum-told-12 : tie.Need-enum-told-12
+enum-told-12 c = search needs
+
+answer-plain-requires : tie.Need-answer-plain-requires
+answer-plain-requires c κs = search needs
+
 returns : tie.Need-returns
 unfolding ordered
 returns c =
@@ -178,6 +184,15 @@ returns-11 c =
     let a = c .before .before .before .before .before .before .before .before .args in
     by-order (a .b) (a .line .now) (c .before .before .before .before .enum-told11 .given .1) (c .before .before .answer-sum .ensures)
 
+same-length-11 : tie.Need-same-length-11
+same-length-11 c = search needs
+
+returns-12 : tie.Need-returns-12
+unfolding ordered
+returns-12 c =
+    let a = c .before .before .before .before .before .before .before .before .args in
+    by-order (a .b) (a .line .now) (c .before .before .before .before .enum-told12 .given .1) (c .before .before .answer-plain .ensures)
+
 pub answer-order-spec : {M : Type 1} → statement M
 answer-order-spec =
     tie.close
@@ -204,6 +219,8 @@ answer-order-spec =
     answer-write-requires
     enum-told-11
     answer-sum-requires
+    enum-told-12
+    answer-plain-requires
     returns
     same-length
     returns-2
@@ -224,4 +241,6 @@ answer-order-spec =
     same-length-9
     returns-10
     same-length-10
-    returns-11)
+    returns-11
+    same-length-11
+    returns-12)

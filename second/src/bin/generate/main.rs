@@ -4,12 +4,13 @@
 //!   same script, always and everywhere.
 //! - `generate sweep` writes the fixed script that walks every small range of document 01, streams
 //!   in pieces (document 02, §1), every ending behind every kind of words (§2), every flip word
-//!   from every flip (§4), status asked by broadcast in every form (§5), and the codes of the remote
-//!   control (§6).
+//!   from every flip (§4), status asked by broadcast in every form (§5), the codes of the remote
+//!   control (§6), and buffers for the plain reader (§7).
 //!
 //! The generator knows what the documents accept, so that most of its messages get past the first
 //! checks; it does not know, and does not use, what the answers are.
 
+mod buffers;
 mod make;
 mod random;
 mod rng;
@@ -346,6 +347,88 @@ mod tests {
             assert_eq!(listed.min(refused), 0, "{code}");
             let told = presses(&answered, code, WITH_NOTICE) > 0;
             assert_eq!(told, words::STATE_CODES.contains(&code), "{code}");
+        }
+    }
+
+    /// What the plain reader says of a buffer.
+    #[derive(PartialEq, Eq, PartialOrd, Ord)]
+    struct Said {
+        entries: usize,
+        /// Where the last entry ended.
+        behind: usize,
+        stopped: bool,
+        end: usize,
+        length: usize,
+    }
+
+    /// What each `plain` that was read is answered with.
+    fn lists(answered: &[(String, String)]) -> Vec<Said> {
+        let plains = answered.iter().filter_map(|(order, answer)| {
+            let digits = order.strip_prefix("plain ")?;
+            let list = answer.strip_prefix("plain ")?;
+            Some((if digits == "-" { 0 } else { digits.len() / 2 }, list))
+        });
+        plains
+            .map(|(length, list)| {
+                let words: Vec<&str> = list.split(' ').collect();
+                let (entries, end) = words.split_at(words.len() - 2);
+                let last = entries.last().and_then(|entry| entry.split_once(':'));
+                let behind = last.map_or(0, |(start, length)| {
+                    start.parse::<usize>().unwrap() + length.parse::<usize>().unwrap()
+                });
+                Said {
+                    entries: entries.len(),
+                    behind,
+                    stopped: end[0] == "stop",
+                    end: end[1].parse().unwrap(),
+                    length,
+                }
+            })
+            .collect()
+    }
+
+    /// Lists of none, of some, of 63 and of 64 entries, that end with a tail, with noise, and with
+    /// the last entry; and stops behind 64, with noise before the 65th and without.
+    fn every_kind_of_list_is_there(answered: &[(String, String)]) {
+        let lists = lists(answered);
+        let count = |kind: &dyn Fn(&Said) -> bool| lists.iter().filter(|said| kind(said)).count();
+        for entries in [0..1, 1..2, 2..10, 10..63, 63..64, 64..65] {
+            let listed = |said: &Said| entries.contains(&said.entries) && !said.stopped;
+            let tails = count(&|said| listed(said) && said.end < said.length);
+            let noise = count(&|said| listed(said) && said.behind < said.end);
+            let bare = count(&|said| listed(said) && said.behind == said.length);
+            let least = tails
+                .min(noise)
+                .min(if entries.start > 0 { bare } else { tails });
+            assert!(least >= 2, "{entries:?}: {tails}, {noise}, {bare}");
+        }
+        let behind_noise = count(&|said| said.stopped && said.behind < said.end);
+        let at_once = count(&|said| said.stopped && said.behind == said.end);
+        assert!(behind_noise >= 2 && at_once >= 20);
+        assert_eq!(count(&|said| said.stopped && said.entries != 64), 0);
+    }
+
+    #[test]
+    fn a_random_script_has_buffers_of_every_kind() {
+        let answered = answered(&random::script(3, 20_000));
+        every_kind_of_list_is_there(&answered);
+        let is_plain = |order: &&(String, String)| order.0.starts_with("plain ");
+        let share = answered.iter().filter(is_plain).count() * 1000 / answered.len();
+        assert!((25..40).contains(&share), "{share} of 1000 orders");
+    }
+
+    #[test]
+    fn the_sweep_has_every_count_of_packets() {
+        let answered = answered(&sweep::script());
+        every_kind_of_list_is_there(&answered);
+        let lists: BTreeSet<Said> = lists(&answered).into_iter().collect();
+        for entries in 0..=64 {
+            let tails: BTreeSet<usize> = lists
+                .iter()
+                .filter(|said| said.entries == entries && !said.stopped)
+                .map(|said| said.length - said.end)
+                .collect();
+            assert!([0, 1, 5, 12, 14].iter().all(|tail| tails.contains(tail)));
         }
     }
 

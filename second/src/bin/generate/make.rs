@@ -55,6 +55,10 @@ impl Script {
         self.line(format!("piece {link} {area} {}", hex(piece)));
     }
 
+    pub fn plain(&mut self, buffer: &[u8]) {
+        self.line(format!("plain {}", hex(buffer)));
+    }
+
     pub fn show(&mut self, link: u64) {
         self.line(format!("show {link}"));
     }

@@ -1,5 +1,6 @@
 //! Random scripts: a console, a house full of panels, and a bad night.
 
+use crate::buffers;
 use crate::make::{
     advert_of_000, close, frame, full_advert, hashes_behind, hex, packet, padded, serial,
     zeros_before, Script, WriteWords, ADVERT_TEXTS,
@@ -23,8 +24,10 @@ struct Console {
     rng: Rng,
     panels: Vec<Panel>,
     wires: [Vec<u8>; 8],
-    /// Chance for the pieces alone: so a seed gives all other orders as it would without them.
+    /// Chance for the pieces alone, and for `plain` alone: so a seed gives all other orders as it
+    /// would without them.
     rng_of_wires: Rng,
+    rng_of_buffers: Rng,
     script: Script,
     no_orders: Vec<Vec<u8>>,
     bad_writes: Vec<String>,
@@ -37,6 +40,7 @@ pub fn script(seed: u64, orders: usize) -> Vec<u8> {
         panels: Vec::new(),
         wires: Default::default(),
         rng_of_wires: Rng::new(!seed),
+        rng_of_buffers: Rng::new(seed.rotate_left(32) ^ 7),
         script: Script::of_at_most(orders),
         no_orders: unread::lines(),
         bad_writes: unread::bad_write_lines(),
@@ -67,6 +71,10 @@ impl Console {
             std::mem::swap(&mut self.rng, &mut self.rng_of_wires);
             self.pieces();
             std::mem::swap(&mut self.rng, &mut self.rng_of_wires);
+        }
+        if self.rng_of_buffers.below(100) < 7 {
+            let buffer = buffers::buffer(&mut self.rng_of_buffers);
+            self.script.plain(&buffer);
         }
         if self.panels.is_empty() && !self.rng.once_in(5) || self.rng.once_in(50) {
             return self.new_box();

@@ -1,6 +1,7 @@
 //! The sweep: a fixed script that walks every small range of document 01, pieces cut anywhere, and
 //! what document 02 asks for besides.
 
+use crate::buffers;
 use crate::make::{
     advert_of_000, close, frame, full_advert, hashes_behind, hex, packet, serial, zeros_before,
     Script, WriteWords, ADVERT_TEXTS,
@@ -28,7 +29,7 @@ type Part = (&'static str, fn(&mut Script));
 
 pub fn script() -> Vec<u8> {
     let mut script = Script::of_at_most(MOST_ORDERS);
-    let parts: [Part; 30] = [
+    let parts: [Part; 35] = [
         ("before any box", before_any_box),
         ("boxes, good and bad", boxes),
         ("links and areas", links_and_areas),
@@ -52,6 +53,14 @@ pub fn script() -> Vec<u8> {
         ("off the wire: every byte of the header", wire::headers),
         ("off the wire: the lengths", wire::lengths),
         ("off the wire: fronts that are none", wire::near_fronts),
+        ("the plain reader: every count", buffers::counts),
+        ("the plain reader: full lists", buffers::full_lists),
+        ("the plain reader: every end", buffers::ends),
+        ("the plain reader: the lengths", buffers::lengths),
+        (
+            "the plain reader: beside receivers",
+            buffers::beside_receivers,
+        ),
         ("KJW: every place of the frame", frame_places),
         ("KJW: every setting with every value", frame_values),
         ("KJW: the remote control", remote_codes),

@@ -17,7 +17,7 @@ pub fn long_write_line(length: usize) -> Vec<u8> {
 
 /// Lines that try every rule of the script language, once each.
 pub fn lines() -> Vec<Vec<u8>> {
-    let texts: [&[u8]; 124] = [
+    let texts: [&[u8]; 133] = [
         b" ",
         b"  ",
         b"-",
@@ -133,7 +133,16 @@ pub fn lines() -> Vec<Vec<u8>> {
         b"piece 9 512 -",
         b"Piece 1 512 -",
         b"pieces 1 512 -",
+        b"plain",
+        b"plain ",
         b"plain -",
+        b"plain - -",
+        b"plain 1 -",
+        b"plain 0",
+        b"plain 030B5",
+        b"plain 03 0B",
+        b"Plain -",
+        b"plains -",
         b"busy 1",
         b"free 1",
         b"hear -",
@@ -156,6 +165,7 @@ pub fn lines() -> Vec<Vec<u8>> {
             "rs232 1 512 ",
             "kjw 1 512 ",
             "piece 1 512 ",
+            "plain ",
         ] {
             lines.push([order.as_bytes().to_vec(), vec![b'0'; digits]].concat());
         }

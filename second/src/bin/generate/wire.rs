@@ -5,13 +5,13 @@ use crate::rng::Rng;
 use crate::sweep::{HOUSE, K, PANELS, W};
 
 /// What a packet begins with.
-const FRONT: &[u8] = b"\x03\x0BSONY";
+pub const FRONT: &[u8] = b"\x03\x0BSONY";
 
-/// The most bytes of a piece.
-const MOST: usize = 1024;
+/// The most bytes of a piece, and of every HEX.
+pub const MOST: usize = 1024;
 
 /// The header of a packet that says this length.
-fn header(length: u16) -> Vec<u8> {
+pub fn header(length: u16) -> Vec<u8> {
     let mut bytes = packet(0, 0, b"");
     bytes[11..].copy_from_slice(&length.to_be_bytes());
     bytes
@@ -19,12 +19,12 @@ fn header(length: u16) -> Vec<u8> {
 
 /// An overlong header whose own bytes go on as a packet might begin: group 03h, unit 0Bh, and so on
 /// to a length of 5900h and more.
-fn header_with_a_front(last: u8) -> Vec<u8> {
+pub fn header_with_a_front(last: u8) -> Vec<u8> {
     [FRONT, FRONT, &[last]].concat()
 }
 
 /// A packet with its data filled up to this length.
-fn filled(packet_before: &[u8], length: usize, filler: u8) -> Vec<u8> {
+pub fn filled(packet_before: &[u8], length: usize, filler: u8) -> Vec<u8> {
     let mut data = packet_before.get(13..).unwrap_or_default().to_vec();
     data.resize(length, filler);
     packet(0, 0, &data)
@@ -80,7 +80,7 @@ pub fn stretch(rng: &mut Rng, message: Vec<u8>) -> Vec<u8> {
 }
 
 /// Bytes that begin no packet, but for the last ones perhaps.
-fn noise(rng: &mut Rng) -> Vec<u8> {
+pub fn noise(rng: &mut Rng) -> Vec<u8> {
     let count = 1 + rng.pick(&[0, 1, 2, 5, 12, 13, 40]);
     match rng.below(4) {
         0 => vec![0x03; count],
@@ -91,7 +91,7 @@ fn noise(rng: &mut Rng) -> Vec<u8> {
 }
 
 /// The front of a packet, cut off or spoiled, perhaps more than one.
-fn near_front(rng: &mut Rng) -> Vec<u8> {
+pub fn near_front(rng: &mut Rng) -> Vec<u8> {
     let mut bytes = Vec::new();
     for _ in 0..1 + rng.below(3) {
         let mut front = FRONT[..1 + rng.below(6)].to_vec();
