@@ -9,7 +9,7 @@ use lib.ListN.{length, getD, List·getD-eq-default}
 use borrow.Author.Tests.{ltb-true, ltb-false}
 use Rattle.laws.specs.Lists.{everyBelow}
 use Rattle.laws.proofs.Table.{below}
-use Rattle.settings.specs.Table.{Setting, named, nameCount}
+use Rattle.settings.specs.Table.{Setting, allNamed, nameCount}
 use Rattle.setting_texts.specs.Names.{names, leads, leadOf, wordsOf, wordOf}
 
 -- the names of the settings and the two shifts
@@ -21,10 +21,10 @@ fewWords k = leb (length (wordsOf k)) 3
 
 -- behind the settings there are no words
 pub none : (k v : ℕ) → 21 ≤ k → wordOf k v ≡ []
-none k v h = ap (λ (ws : List (List ℕ)). getD ws v []) (List·getD-eq-default (map (λ (s : Setting). s .words) named) [] h)
+none k v h = ap (λ (ws : List (List ℕ)). getD ws v []) (List·getD-eq-default (map (λ (s : Setting). s .words) allNamed) [] h)
 
 pub no-words : (k : ℕ) → 21 ≤ k → length (wordsOf k) ≡ 0
-no-words k h = ap length (List·getD-eq-default (map (λ (s : Setting). s .words) named) [] h)
+no-words k h = ap length (List·getD-eq-default (map (λ (s : Setting). s .words) allNamed) [] h)
 
 pub few-words : (k : ℕ) → length (wordsOf k) ≤ 3
 unfolding fewWords

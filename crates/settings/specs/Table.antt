@@ -74,17 +74,13 @@ noFlip = 0
 abbrev pub mostFlip : ℕ
 mostFlip = 3
 
--- so many places has the record
-abbrev pub placeCount : ℕ
-placeCount = 19
-
 -- its three words, each with ON or OFF behind it
 abbrev pub flips : List Setting
 flips = switch "FLIPH" 0 ∷ switch "FLIPV" 0 ∷ switch "FLIPHV" 0 ∷ []
 
 -- all that has a name, in the order of the names
-abbrev pub named : List Setting
-named = table ++ flips
+abbrev pub allNamed : List Setting
+allNamed = table ++ flips
 
 -- the numbers of the names: the levels stand first, then the choices, the flip words last of them; behind them SHIFTH and SHIFTV
 abbrev pub levelCount : ℕ
@@ -104,6 +100,10 @@ placeNamed name (s ∷ ss) = cond (same name (s .name)) 0 (suc (placeNamed name 
 abbrev pub remote : ℕ
 remote = placeNamed (ascii "REMOTE") table
 
+-- so many places have the settings in the record
+abbrev pub placeCount : ℕ
+placeCount = 19
+
 -- the columns of numbers, as they stand in the record: the table's, and behind them the flip's, which starts as none
 abbrev pub mosts : List ℕ
 mosts = map (λ (s : Setting). s .most) table ++ (mostFlip ∷ [])
@@ -113,4 +113,4 @@ starts = map (λ (s : Setting). s .start) table ++ (noFlip ∷ [])
 
 -- the greatest value behind each name
 abbrev pub tops : List ℕ
-tops = map (λ (s : Setting). s .most) named
+tops = map (λ (s : Setting). s .most) allNamed
