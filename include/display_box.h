@@ -15,7 +15,7 @@
  *     if (box_configure(&box, screens, sizeof screens) != BOX_DONE)
  *         .. the configuration breaks a rule ..
  *     struct box_outcome o = box_take_tcp(&box, 1, packet, packet_length, area, sizeof area);
- *     .. write the first o.length bytes of area to the console; o.answer is for the log ..
+ *     .. write the first o.length bytes of area to the console; o.answer and o.place are for the log ..
  *
  * State. The archive has none: no globals, no heap, no files, no threads. All
  * that is remembered is in the struct display_box that is handed in, and of bytes
@@ -51,8 +51,9 @@
  * BOX_PLAIN_STACK_LENGTH, whatever is handed in and however long it is.
  *
  * Answers (document 01, "Answer numbers", and document 02): enum box_answer.
- * Checks run in the order of the numbers, but for 8, which comes between 5 and 6;
- * the first that applies is given.
+ * Checks run in the order of the numbers, but that 9 to 14 come where a message
+ * would have 5, behind 4 and before 6, and 8 between them and 6; the first that
+ * applies is given.
  */
 #ifndef DISPLAY_BOX_H
 #define DISPLAY_BOX_H
@@ -73,10 +74,17 @@ enum box_answer {
     BOX_NO_SUCH_PANEL = 2,     /* no panel with that link number, or it is of the other family; no such way in, whatever the area */
     BOX_WRONG_LENGTH = 3,      /* too short to be a message, or a wrong fixed length */
     BOX_NOT_FOR_US = 4,        /* not for us: wrong fixed bytes, or nobody is addressed */
-    BOX_ENVELOPE_WRONG = 5,    /* RS-232C: byte count or checksum; SDCP: request, item or data length; advert: power, error or a text */
+    BOX_ENVELOPE_WRONG = 5,    /* an advert alone: power, error or a text; of a message 9 to 14 say which part of the envelope */
     BOX_NOT_UNDERSTOOD = 6,    /* the contents are not understood */
     BOX_BAD_CONFIGURATION = 7, /* box_configure alone: the configuration breaks a rule */
     BOX_STATUS_BY_BROADCAST = 8, /* BOX_WAY_UDP alone: STATget, which no panel answers by UDP; the console that sent it waits for ever */
+    /* a message's envelope; behind each the place that goes with it, of the first byte of the guilty field */
+    BOX_REQUEST_WRONG = 9,     /* SDCP: the request byte is not 00h; 8 */
+    BOX_ITEM_WRONG = 10,       /* SDCP: the item is not B000h; 9 */
+    BOX_DATA_TOO_LONG = 11,    /* SDCP: the data length is over 499; 11 */
+    BOX_DATA_NOT_MATCHING = 12, /* SDCP: the data length is not the number of bytes that follow; 11 */
+    BOX_COUNT_WRONG = 13,      /* RS-232C: the byte count is not the length less 3; 1 */
+    BOX_CHECKSUM_WRONG = 14,   /* RS-232C: the bytes from the byte count to the checksum do not sum to 0; the frame's last byte */
 };
 
 /* The ways in. Any other number is no way in, and is answered BOX_NO_SUCH_PANEL, also where the area is too small for a reply. */
@@ -241,9 +249,16 @@ struct box_listing {
 
 /* ---- the box */
 
-/* What a message did: an answer of enum box_answer, and how many bytes of the area are the reply. */
+/*
+ * What a message did: an answer of enum box_answer, and how many bytes of the area
+ * are the reply. With BOX_REQUEST_WRONG to BOX_CHECKSUM_WRONG goes the place of the
+ * first byte of the guilty field, counted from 0; with every other answer the place is
+ * 0, which is none of theirs. It stands where C had padding, so answer and length
+ * are where they were before there was a place.
+ */
 struct box_outcome {
     uint8_t answer;
+    uint16_t place;
     size_t length;
 };
 
@@ -281,10 +296,15 @@ BOX_LENGTH_IS(box_listing, 1048);
 uint8_t box_configure(struct display_box *box, const uint8_t *configuration, size_t configuration_length);
 
 /*
- * A message. Gives BOX_DONE to BOX_NOT_UNDERSTOOD, or by UDP also
- * BOX_STATUS_BY_BROADCAST, and the reply's length: the first so many bytes of
- * area are to go back to the console, and 0 is no reply. A message that is not
- * BOX_DONE can have a reply too.
+ * A message. Gives an answer, its place, and the reply's length: the first so many
+ * bytes of area are to go back to the console, and 0 is no reply. A message that
+ * is not BOX_DONE can have a reply too.
+ *
+ * Every way gives BOX_DONE, BOX_WRONG_LENGTH, BOX_NOT_FOR_US and BOX_NOT_UNDERSTOOD,
+ * and all but UDP BOX_AREA_TOO_SMALL and BOX_NO_SUCH_PANEL; besides
+ *   BOX_WAY_RS232C  BOX_COUNT_WRONG, BOX_CHECKSUM_WRONG
+ *   BOX_WAY_TCP     BOX_REQUEST_WRONG, BOX_ITEM_WRONG, BOX_DATA_TOO_LONG, BOX_DATA_NOT_MATCHING
+ *   BOX_WAY_UDP     the same, and BOX_STATUS_BY_BROADCAST
  *
  * All of the area behind the reply keeps what it held; where the answer is not
  * BOX_DONE, all of the box does too. When BOX_DONE is given, what was set stands
@@ -324,10 +344,10 @@ static inline struct box_outcome box_take_tcp(struct display_box *box, size_t li
     return box_take(box, BOX_WAY_TCP, link, message, message_length, area, area_length);
 }
 
-/* By UDP there is no reply, so the answer is all there is. */
-static inline uint8_t box_take_udp(struct display_box *box, const uint8_t *message, size_t message_length)
+/* By UDP there is no reply, so answer and place are all there is. */
+static inline struct box_outcome box_take_udp(struct display_box *box, const uint8_t *message, size_t message_length)
 {
-    return box_take(box, BOX_WAY_UDP, 0, message, message_length, NULL, 0).answer;
+    return box_take(box, BOX_WAY_UDP, 0, message, message_length, NULL, 0);
 }
 
 /*
@@ -360,11 +380,12 @@ void box_panel_at(const struct display_box *box, size_t link, struct box_panel *
  *
  * Bytes are dropped until the next can begin 03h 0Bh "SONY"; with 13 bytes the
  * packet's length is known. A header that says more than 499 bytes of data is
- * handed out alone, 13 bytes, which box_take_tcp answers with BOX_ENVELOPE_WRONG,
- * or with BOX_NOT_FOR_US where nobody is addressed; its data is then searched like
- * any other bytes. Packets that address nobody are handed out too. What is held is
- * read before the piece: a receiver that was handed in with a whole packet gives
- * it with 0 bytes taken.
+ * handed out alone, 13 bytes, which box_take_tcp answers with BOX_DATA_TOO_LONG,
+ * with BOX_REQUEST_WRONG or BOX_ITEM_WRONG where that is wrong before it, or with
+ * BOX_NOT_FOR_US where nobody is addressed; its data is then searched like any
+ * other bytes. Packets that address nobody are handed out too. What is held is read
+ * before the piece: a receiver that was handed in with a whole packet gives it with
+ * 0 bytes taken.
  *
  * A receiver belongs to one connection. The host empties it, all bytes to 0, when
  * the connection ends: half a packet of one console must not meet the first bytes

@@ -82,6 +82,12 @@ static const char *answer_words(uint8_t answer)
     case BOX_NOT_UNDERSTOOD: return "contents not understood";
     case BOX_BAD_CONFIGURATION: return "configuration breaks a rule";
     case BOX_STATUS_BY_BROADCAST: return "a status asked for by broadcast";
+    case BOX_REQUEST_WRONG: return "request wrong";
+    case BOX_ITEM_WRONG: return "item wrong";
+    case BOX_DATA_TOO_LONG: return "data length over 499";
+    case BOX_DATA_NOT_MATCHING: return "data length not matching";
+    case BOX_COUNT_WRONG: return "byte count wrong";
+    case BOX_CHECKSUM_WRONG: return "checksum wrong";
     default: return "an answer that this host does not know";
     }
 }
@@ -356,7 +362,10 @@ static bool take_message(struct display_box *box, const struct port *port, const
     uint8_t area[BOX_AREA_LENGTH];
     struct box_outcome outcome = box_take(box, port->way, port->link, message, length, area, sizeof area);
     bool taken = write_reply(port->fd, area, outcome.length);
-    log_line(port, "%s, %zu bytes %s", answer_words(outcome.answer), outcome.length, taken ? "back" : "not taken");
+    char place[16] = "";
+    if (outcome.place != 0)
+        snprintf(place, sizeof place, " at byte %d", outcome.place);
+    log_line(port, "%s%s, %zu bytes %s", answer_words(outcome.answer), place, outcome.length, taken ? "back" : "not taken");
     return taken;
 }
 

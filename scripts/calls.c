@@ -53,9 +53,10 @@ static uint64_t nanoseconds(void)
     return (uint64_t)now.tv_sec * 1000000000 + (uint64_t)now.tv_nsec;
 }
 
-static void tell(uint32_t times, uint64_t took, uint8_t answer)
+static void tell(uint32_t times, uint64_t took, uint8_t answer, uint16_t place)
 {
-    printf("%lu %llu answer %u", (unsigned long)times, (unsigned long long)took, (unsigned)answer);
+    printf("%lu %llu ", (unsigned long)times, (unsigned long long)took);
+    put_answer(answer, place);
 }
 
 static void tell_reply(const uint8_t *reply, size_t length)
@@ -76,11 +77,11 @@ static void take(uint32_t times, uint8_t way, char **words)
     if (box_configure(&box, panels, sizeof panels) != BOX_DONE)
         exit(1);
 
-    struct box_outcome outcome = { 0, 0 };
+    struct box_outcome outcome = { 0, 0, 0 };
     uint64_t start = nanoseconds();
     for (uint32_t i = 0; i < times; i++)
         outcome = box_take(&box, way, link, message.at, message.length, area, area_length);
-    tell(times, nanoseconds() - start, outcome.answer);
+    tell(times, nanoseconds() - start, outcome.answer, outcome.place);
     if (has_area)
         tell_reply(area, outcome.length);
 }
@@ -94,7 +95,7 @@ static void read_advert(uint32_t times, char **words)
     uint64_t start = nanoseconds();
     for (uint32_t i = 0; i < times; i++)
         answer = box_advert_read(advert.at, advert.length);
-    tell(times, nanoseconds() - start, answer);
+    tell(times, nanoseconds() - start, answer, 0);
 }
 
 /* AREA CATEGORY PRODUCT SERIAL POWER LOCATION IP IP1 IP2 IP3 IP4 ERROR REGION NAME GROUP UNIT. */
@@ -117,7 +118,7 @@ static void write_advert(uint32_t times, char **words)
         answer = box_advert_write(category, product.at, product.length, serial, power, location.at, location.length,
                                   ip[0], ip[1], ip[2], ip[3], ip[4], error, region.at, region.length,
                                   name.at, name.length, group, unit, area, area_length);
-    tell(times, nanoseconds() - start, answer);
+    tell(times, nanoseconds() - start, answer, 0);
     tell_reply(area, answer == BOX_DONE ? BOX_ADVERT_LENGTH : 0);
 }
 

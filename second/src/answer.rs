@@ -16,7 +16,8 @@ pub enum Answer {
     WrongLength,
     /// 4: "not for us".
     NotForUs,
-    /// 5: "envelope wrong".
+    /// 5: "envelope wrong", of an advert. Of a message, document 02, §8 says which part of it:
+    /// [`Answer::WrongPart`].
     EnvelopeWrong,
     /// 6: "contents not understood".
     NotUnderstood,
@@ -24,6 +25,21 @@ pub enum Answer {
     BadConfiguration,
     /// 8: status asked by broadcast (document 02, §5).
     StatusByBroadcast,
+    /// 9 to 14: this part of a message's envelope is wrong (document 02, §8).
+    WrongPart(Part),
+}
+
+/// Document 02, §8: "Support calls about number 5 take an evening. Split it for messages: request
+/// byte, item, data length over 499, data length not matching, RS-232C byte count, RS-232C
+/// checksum."
+#[derive(Clone, Copy, Debug, PartialEq, Eq)]
+pub enum Part {
+    Request,
+    Item,
+    LengthOver499,
+    LengthNotMatching,
+    ByteCount,
+    Checksum,
 }
 
 impl Answer {
@@ -39,6 +55,42 @@ impl Answer {
             Answer::NotUnderstood => 6,
             Answer::BadConfiguration => 7,
             Answer::StatusByBroadcast => 8,
+            Answer::WrongPart(part) => part.number(),
+        }
+    }
+
+    /// "With each goes the place of the first byte of the guilty field; other answers have place
+    /// 0." The message has this many bytes, and its first stands at place 0.
+    pub fn place(self, length: usize) -> usize {
+        match self {
+            Answer::WrongPart(part) => part.place(length),
+            _ => 0,
+        }
+    }
+}
+
+impl Part {
+    /// "Refusals: 9 request, 10 item, 11 over 499, 12 not matching, 13 byte count, 14 checksum".
+    fn number(self) -> u8 {
+        match self {
+            Part::Request => 9,
+            Part::Item => 10,
+            Part::LengthOver499 => 11,
+            Part::LengthNotMatching => 12,
+            Part::ByteCount => 13,
+            Part::Checksum => 14,
+        }
+    }
+
+    /// Where the field begins in a message of this many bytes. All stand where document 01 lays them
+    /// out, but for the checksum: it is the last byte, of six or more.
+    fn place(self, length: usize) -> usize {
+        match self {
+            Part::Request => 8,
+            Part::Item => 9,
+            Part::LengthOver499 | Part::LengthNotMatching => 11,
+            Part::ByteCount => 1,
+            Part::Checksum => length - 1,
         }
     }
 }

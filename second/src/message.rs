@@ -21,10 +21,13 @@ pub enum Way<'a> {
     Udp,
 }
 
-/// The answer, and how many bytes of the area's front were written.
+/// What became of a message.
 #[derive(Clone, Copy, Debug, PartialEq, Eq)]
 pub struct Outcome {
     pub answer: Answer,
+    /// Where the guilty field begins in the message (document 02, §8); 0 for answers that have none.
+    pub place: usize,
+    /// How many bytes of the area's front were written.
     pub written: usize,
 }
 
@@ -33,14 +36,20 @@ pub struct Outcome {
 /// "A box handed in that breaks these rules, or holds a setting outside its range below, is
 /// answered as a box of no panels and given back as it came."
 pub fn receive(held: &mut DisplayBox, way: Way<'_>, bytes: &[u8]) -> Outcome {
-    if held.keeps_the_rules() {
+    let (answer, written) = if held.keeps_the_rules() {
         receive_in_good_box(held, way, bytes)
     } else {
         receive_in_good_box(&mut DisplayBox::of_no_panels(), way, bytes)
+    };
+    Outcome {
+        answer,
+        place: answer.place(bytes.len()),
+        written,
     }
 }
 
-fn receive_in_good_box(held: &mut DisplayBox, way: Way<'_>, bytes: &[u8]) -> Outcome {
+/// The answer, and how many bytes of the area's front were written.
+fn receive_in_good_box(held: &mut DisplayBox, way: Way<'_>, bytes: &[u8]) -> (Answer, usize) {
     match way {
         Way::Rs232c { link, area } => with_area(area, || match settings_of(held, link) {
             Some(Settings::W(settings)) => rs232c::receive(settings, bytes),
@@ -56,10 +65,7 @@ fn receive_in_good_box(held: &mut DisplayBox, way: Way<'_>, bytes: &[u8]) -> Out
             _ => Reply::silent(Answer::NoSuchPanel),
         }),
         // "UDP skips 1 and 2."
-        Way::Udp => Outcome {
-            answer: sdcp::receive_by_udp(held, bytes),
-            written: 0,
-        },
+        Way::Udp => (sdcp::receive_by_udp(held, bytes), 0),
     }
 }
 
@@ -71,18 +77,12 @@ fn settings_of(held: &mut DisplayBox, link: u32) -> Option<&mut Settings> {
 
 /// Check 1, then the message itself, then its reply: "A reply fills the front of the area; bytes
 /// after it keep what they held, and the reply's length is returned (0 when there is none)."
-fn with_area(area: &mut [u8], carry_out: impl FnOnce() -> Reply) -> Outcome {
+fn with_area(area: &mut [u8], carry_out: impl FnOnce() -> Reply) -> (Answer, usize) {
     if area.len() < SMALLEST_AREA {
-        return Outcome {
-            answer: Answer::AreaTooSmall,
-            written: 0,
-        };
+        return (Answer::AreaTooSmall, 0);
     }
     let reply = carry_out();
     let written = reply.bytes.len();
     area[..written].copy_from_slice(&reply.bytes);
-    Outcome {
-        answer: reply.answer,
-        written,
-    }
+    (reply.answer, written)
 }

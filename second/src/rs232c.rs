@@ -2,7 +2,7 @@
 //!
 //! "Bytes: 02h, byte count, destination, source, command block, checksum."
 
-use crate::answer::{Answer, Reply};
+use crate::answer::{Answer, Part, Reply};
 use crate::checksum;
 use crate::panel::{Connector, Preset, Switch, WSettings};
 
@@ -17,20 +17,32 @@ pub fn receive(settings: &mut WSettings, bytes: &[u8]) -> Reply {
     if bytes.len() < 6 {
         return Reply::silent(Answer::WrongLength);
     }
-    let (count, destination, source) = (bytes[1], bytes[2], bytes[3]);
+    let (destination, source) = (bytes[2], bytes[3]);
     // "First byte not 02h, destination not 01h, or source outside 41h to 7Fh: 4."
     if bytes[0] != START || destination != OUR_ADDRESS || !(0x41..=0x7F).contains(&source) {
         return Reply::silent(Answer::NotForUs);
     }
-    // "Byte count not equal to length less 3: 5. The sum from the byte count to the checksum,
-    // both included, is not 0 modulo 256: 5."
-    if usize::from(count) != bytes.len() - 3 || !checksum::sums_to_zero(&bytes[1..]) {
-        return Reply::new(Answer::EnvelopeWrong, frame(source, &[NAK]));
+    // Document 02, §8: its numbers stand "at the old place of 5", and "The bytes sent to the console
+    // stay as they were".
+    if let Some(part) = wrong_part(bytes) {
+        return Reply::new(Answer::WrongPart(part), frame(source, &[NAK]));
     }
     let block = &bytes[4..bytes.len() - 1];
     match carry_out(settings, block[0], &block[1..]) {
         Some(answer_block) => Reply::new(Answer::CarriedOut, frame(source, &answer_block)),
         None => Reply::new(Answer::NotUnderstood, frame(source, &[NAK])),
+    }
+}
+
+/// "Byte count not equal to length less 3: 5. The sum from the byte count to the checksum, both
+/// included, is not 0 modulo 256: 5." Document 02, §8 tells the two apart, "in that order".
+fn wrong_part(bytes: &[u8]) -> Option<Part> {
+    if usize::from(bytes[1]) != bytes.len() - 3 {
+        Some(Part::ByteCount)
+    } else if !checksum::sums_to_zero(&bytes[1..]) {
+        Some(Part::Checksum)
+    } else {
+        None
     }
 }
 

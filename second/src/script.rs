@@ -113,7 +113,7 @@ impl Replay {
             }
             Order::Udp(bytes) => {
                 let outcome = receive(&mut self.held, Way::Udp, &bytes);
-                format!("answer {}", outcome.answer.number())
+                answer_text(outcome.answer, outcome.place)
             }
             Order::Show(link) => match self.held.panel(link) {
                 Some(panel) => show(panel),
@@ -121,7 +121,7 @@ impl Replay {
             },
             Order::Advert(bytes) => match advert::read(&bytes) {
                 (Answer::CarriedOut, fields) => fields_text(&fields),
-                (answer, _) => format!("answer {}", answer.number()),
+                (answer, _) => answer_text(answer, 0),
             },
             Order::Write(order) => write_advert(&order),
             Order::Sum(bytes) => {
@@ -165,19 +165,31 @@ impl Replay {
     ) -> String {
         let mut area = vec![FILL; area];
         let outcome = receive(&mut self.held, way(&mut area), bytes);
-        reply_text(outcome.answer, &area, outcome.written)
+        let answer = answer_text(outcome.answer, outcome.place);
+        reply_text(answer, &area, outcome.written)
     }
 }
 
-/// "A message with a reply area writes `answer A reply HEX`".
-fn reply_text(answer: Answer, area: &[u8], written: usize) -> String {
+/// `answer A`; from §8 on "a message's answer is written `answer A at P` where P is not 0, before
+/// ` reply`".
+pub fn answer_text(answer: Answer, place: usize) -> String {
+    let number = answer.number();
+    if place == 0 {
+        format!("answer {number}")
+    } else {
+        format!("answer {number} at {place}")
+    }
+}
+
+/// "A message with a reply area is answered `answer A reply HEX`".
+fn reply_text(answer: String, area: &[u8], written: usize) -> String {
     let (reply, behind) = area.split_at(written);
     let spoiled = if behind.iter().all(|byte| *byte == FILL) {
         ""
     } else {
         " spoiled"
     };
-    format!("answer {} reply {}{}", answer.number(), hex(reply), spoiled)
+    format!("{answer} reply {}{spoiled}", hex(reply))
 }
 
 /// "Output is in capitals."; "(`-` for none)".
@@ -210,7 +222,7 @@ fn write_advert(order: &WriteOrder) -> String {
     } else {
         0
     };
-    reply_text(answer, &area, written)
+    reply_text(answer_text(answer, 0), &area, written)
 }
 
 fn fields_text(fields: &Fields) -> String {

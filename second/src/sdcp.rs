@@ -4,7 +4,7 @@
 //! request, item (2), data length (2), data."
 
 use crate::address::{addressed, WayIn};
-use crate::answer::{Answer, Reply};
+use crate::answer::{Answer, Part, Reply};
 use crate::config::DisplayBox;
 use crate::panel::{Settings, WSettings};
 use crate::vmc;
@@ -35,7 +35,7 @@ pub fn receive_by_tcp(held: &mut DisplayBox, link: u32, bytes: &[u8]) -> Reply {
     let reading = read(held, WayIn::Tcp(link), bytes);
     let reply = match reading.answer {
         Answer::CarriedOut | Answer::NotUnderstood => ok(bytes, &reading.data),
-        Answer::EnvelopeWrong => ng(bytes),
+        Answer::WrongPart(_) => ng(bytes),
         _ => Vec::new(),
     };
     Reply::new(reading.answer, reply)
@@ -56,8 +56,9 @@ fn read(held: &mut DisplayBox, way: WayIn, bytes: &[u8]) -> Reading {
     if places.is_empty() {
         return Reading::refused(Answer::NotForUs);
     }
-    if !envelope_is_good(bytes) {
-        return Reading::refused(Answer::EnvelopeWrong);
+    // Document 02, §8: its numbers stand "at the old place of 5".
+    if let Some(part) = wrong_part(bytes) {
+        return Reading::refused(Answer::WrongPart(part));
     }
     // Document 02, §5, "No status by broadcast": "Refusals: 8, after 5 and before 6."
     if way == WayIn::Udp && vmc::asks_for_status(&bytes[HEADER..]) {
@@ -80,13 +81,25 @@ fn read(held: &mut DisplayBox, way: WayIn, bytes: &[u8]) -> Reading {
     }
 }
 
-/// "5 if request is not 00h, item not B000h, data length over 499, or data length not the number
-/// of bytes that follow."
-fn envelope_is_good(bytes: &[u8]) -> bool {
+/// "request is not 00h, item not B000h, data length over 499, or data length not the number of bytes
+/// that follow": document 01 gave 5 to each. Document 02, §8 tells them apart, "in that order", and
+/// the first that is wrong is given. The overlong header of §1 is judged as any packet is: "9 or 10
+/// if those fields are wrong, else 11".
+fn wrong_part(bytes: &[u8]) -> Option<Part> {
     let request = bytes[8];
     let item = u16::from_be_bytes([bytes[9], bytes[10]]);
     let length = usize::from(u16::from_be_bytes([bytes[11], bytes[12]]));
-    request == 0x00 && item == 0xB000 && length <= MOST_DATA && length == bytes.len() - HEADER
+    if request != 0x00 {
+        Some(Part::Request)
+    } else if item != 0xB000 {
+        Some(Part::Item)
+    } else if length > MOST_DATA {
+        Some(Part::LengthOver499)
+    } else if length != bytes.len() - HEADER {
+        Some(Part::LengthNotMatching)
+    } else {
+        None
+    }
 }
 
 /// Does what the words say; the data that an OK carries comes back.

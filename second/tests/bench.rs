@@ -25,8 +25,9 @@ fn white_balance_data() {
 #[test]
 fn the_first_with_last_byte_4e() {
     let mut held = usual_box();
-    let told = rs232(&mut held, 1, &hex("02 03 01 41 6E 4E"));
-    assert_eq!(told, (5, hex("02 03 41 01 05 B6")));
+    let told = rs232_at(&mut held, 1, &hex("02 03 01 41 6E 4E"));
+    // Document 01's 5 is 14 with its place since document 02, §8; the bytes stay as they were.
+    assert_eq!(told, (14, 5, hex("02 03 41 01 05 B6")));
     assert_eq!(held, usual_box());
 }
 
@@ -73,9 +74,9 @@ fn request_01_is_ng() {
     let mut held = usual_box();
     let mut bytes = packet(0, 0, b"STATset VOLUME 40");
     bytes[8] = 0x01;
-    let told = tcp(&mut held, 1, &bytes);
+    let told = tcp_at(&mut held, 1, &bytes);
     let reply = hex("03 0B 53 4F 4E 59 00 00 00 B0 00 00 02 F0 50");
-    assert_eq!(told, (5, reply));
+    assert_eq!(told, (9, 8, reply));
     assert_eq!(held, usual_box());
 }
 
@@ -97,7 +98,7 @@ fn data_length_499_and_500() {
     let longer = packet(0, 0, &[b'A'; 500]);
     assert_eq!(longer.len(), 513);
     let ng = hex("03 0B 53 4F 4E 59 00 00 00 B0 00 00 02 F0 50");
-    assert_eq!(tcp(&mut held, 1, &longer), (5, ng));
+    assert_eq!(tcp_at(&mut held, 1, &longer), (11, 11, ng));
 }
 
 #[test]

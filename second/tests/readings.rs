@@ -583,10 +583,9 @@ fn what_is_left_after_the_trimming() {
     assert_eq!(held, usual_box());
 }
 
-// §2: the data length is of the data as sent, and check 5 comes first.
+// §2: the data length is of the data as sent, and the envelope is judged first.
 #[test]
 fn the_data_length_is_of_the_data_as_sent() {
-    let ng = hex("03 0B 53 4F 4E 59 00 00 00 B0 00 00 02 F0 50");
     let mut held = usual_box();
     for last in [b' ', 0x00] {
         let mut data = b"STATset VOLUME 40".to_vec();
@@ -598,15 +597,16 @@ fn the_data_length_is_of_the_data_as_sent() {
         w(&mut held, 1).volume = 30;
         // One space more is too long, whatever is left of it.
         data.insert(17, b' ');
-        assert_eq!(words(&mut held, &data), (5, ng.clone()));
+        let told = tcp_at(&mut held, 1, &packet(0, 0, &data));
+        assert_eq!(told, (11, 11, ng(0, 0)));
     }
     // A length that leaves the ending out, and one that counts an ending which is not there.
     let mut bytes = packet(0, 0, b"STATset VOLUME 40 ");
     bytes[12] = 17;
-    assert_eq!(tcp(&mut held, 1, &bytes), (5, ng.clone()));
+    assert_eq!(tcp_at(&mut held, 1, &bytes), (12, 11, ng(0, 0)));
     let mut bytes = packet(0, 0, b"STATset VOLUME 40");
     bytes[12] = 18;
-    assert_eq!(tcp(&mut held, 1, &bytes), (5, ng));
+    assert_eq!(tcp_at(&mut held, 1, &bytes), (12, 11, ng(0, 0)));
     assert_eq!(held, usual_box());
 }
 
@@ -768,7 +768,8 @@ fn what_is_no_status_by_broadcast() {
     assert_eq!(w(&mut held, 2).volume, 4);
 }
 
-// §5: "8, after 5 and before 6". Too short is 3, nobody addressed is 4, a wrong envelope is 5 first.
+// §5: "8, after 5 and before 6". Too short is 3, nobody addressed is 4, and a wrong part of the
+// envelope (§8) is told first.
 #[test]
 fn no_status_by_broadcast_comes_after_5() {
     let mut held = usual_box();
@@ -778,14 +779,22 @@ fn no_status_by_broadcast_comes_after_5() {
         let asked = packet(group, unit, b"STATget VOLUME");
         assert_eq!(udp(&mut held, &asked), 4);
     }
-    for (place, byte) in [(8, 1), (9, 0xB1), (10, 1), (11, 1), (12, 13), (12, 15)] {
+    for (place, byte, told) in [
+        (8, 1, (9, 8)),
+        (9, 0xB1, (10, 9)),
+        (10, 1, (10, 9)),
+        (11, 1, (12, 11)),
+        (11, 2, (11, 11)),
+        (12, 13, (12, 11)),
+        (12, 15, (12, 11)),
+    ] {
         let mut bytes = good.clone();
         bytes[place] = byte;
-        assert_eq!(udp(&mut held, &bytes), 5);
+        assert_eq!(udp_at(&mut held, &bytes), told);
     }
     let mut long = b"STATget VOLUME".to_vec();
     long.resize(500, b' ');
-    assert_eq!(udp(&mut held, &packet(1, 0xFF, &long)), 5);
+    assert_eq!(udp_at(&mut held, &packet(1, 0xFF, &long)), (11, 11));
     let mut none = new_box(&[(b'K', 0, 0)]);
     assert_eq!(udp(&mut none, &packet(0xFF, 0xFF, b"STATget VOLUME")), 4);
 }
@@ -797,7 +806,195 @@ fn ng_echoes_the_item() {
     let mut bytes = packet(1, 1, b"STATset LED ON");
     bytes[9..11].copy_from_slice(&[0xB0, 0x01]);
     let reply = hex("03 0B 53 4F 4E 59 01 01 00 B0 01 00 02 F0 50");
-    assert_eq!(tcp(&mut held, 2, &bytes), (5, reply));
+    assert_eq!(tcp_at(&mut held, 2, &bytes), (10, 9, reply));
+    assert_eq!(held, usual_box());
+}
+
+/// What a packet is told by TCP to its panel and to a pair, and by UDP to a group and to all; the
+/// reply of each is the NG that document 01 asks for, with the item as it came.
+fn told_by_every_way(message: &[u8]) -> (u8, usize) {
+    let mut held = usual_box();
+    let mut message = message.to_vec();
+    let mut told = Vec::new();
+    for (group, unit) in [(0, 0), (2, 1)] {
+        message[6..8].copy_from_slice(&[group, unit]);
+        let (number, place, reply) = tcp_at(&mut held, 1, &message);
+        let mut refused = ng(group, unit);
+        refused[9..11].copy_from_slice(&message[9..11]);
+        assert_eq!(reply, refused);
+        told.push((number, place));
+    }
+    for group in [1, 0xFF] {
+        message[6..8].copy_from_slice(&[group, 0xFF]);
+        told.push(udp_at(&mut held, &message));
+    }
+    assert_eq!(told, [told[0]; 4]);
+    assert_eq!(held, usual_box());
+    told[0]
+}
+
+// §8: "9 request, 10 item, 11 over 499, 12 not matching", each with "the place of the first byte of
+// the guilty field": 8, 9, 11, 11. Whatever is wrong in the field, its first byte is told.
+#[test]
+fn which_part_of_a_packet() {
+    for data in [&b"STATset LED ON"[..], b"STATget LED", b"no words", b""] {
+        let good = packet(0, 0, data);
+        let with = |place: usize, field: &[u8]| {
+            let mut message = good.clone();
+            message[place..place + field.len()].copy_from_slice(field);
+            told_by_every_way(&message)
+        };
+        for byte in 1..=255 {
+            assert_eq!(with(8, &[byte]), (9, 8));
+            assert_eq!(with(9, &[0xB0 ^ byte]), (10, 9));
+            assert_eq!(with(10, &[byte]), (10, 9));
+            assert_eq!(with(9, &[0xB0 ^ byte, byte]), (10, 9));
+            // With 01h as its high byte the length is 256 and more, but not over 499.
+            let told = if byte == 1 { (12, 11) } else { (11, 11) };
+            assert_eq!(with(11, &[byte]), told);
+            assert_eq!(with(12, &[byte ^ data.len() as u8]), (12, 11));
+        }
+        for length in 0..=600_u16 {
+            let told = match length {
+                500.. => (11, 11),
+                _ if usize::from(length) == data.len() => continue,
+                _ => (12, 11),
+            };
+            assert_eq!(with(11, &length.to_be_bytes()), told, "{length}");
+        }
+    }
+}
+
+// §8: data lengths about the number of bytes that follow, and about 499.
+#[test]
+fn data_lengths_and_what_follows() {
+    let about = |follows: std::ops::RangeInclusive<usize>,
+                 said: std::ops::RangeInclusive<usize>| {
+        for follow in follows {
+            for said in said.clone() {
+                let mut message = packet(0, 0, &vec![b'A'; follow]);
+                message[11..13].copy_from_slice(&(said as u16).to_be_bytes());
+                let told = if said > 499 {
+                    (11, 11)
+                } else if said != follow {
+                    (12, 11)
+                } else {
+                    // Such words are 6, with OK and no data, and with place 0.
+                    let told = tcp(&mut usual_box(), 1, &message);
+                    assert_eq!(told, (6, ok(0, 0, b"")));
+                    continue;
+                };
+                assert_eq!(told_by_every_way(&message), told, "{follow}, {said}");
+            }
+        }
+    };
+    about(0..=5, 0..=5);
+    about(0..=5, 254..=262);
+    about(496..=503, 496..=503);
+    about(0..=5, 496..=503);
+}
+
+// §8: "in that order within each form, at the old place of 5". Every choice of wrong parts: the first
+// of them is told. 4 comes before them, and 8 and 6 come behind.
+#[test]
+fn the_first_wrong_part_of_a_packet() {
+    for request in [0x00, 0x01] {
+        for item in [0xB000_u16, 0xB001, 0xA000] {
+            for length in [8_u16, 7, 9, 500, 0xFFFF] {
+                for data in [&b"STATget "[..], b"no words"] {
+                    let mut message = packet(0, 0, data);
+                    message[8] = request;
+                    message[9..11].copy_from_slice(&item.to_be_bytes());
+                    message[11..13].copy_from_slice(&length.to_be_bytes());
+                    let told = match (request, item, length) {
+                        (0x01, _, _) => (9, 8),
+                        (_, 0xB001 | 0xA000, _) => (10, 9),
+                        (_, _, 500 | 0xFFFF) => (11, 11),
+                        (_, _, 7 | 9) => (12, 11),
+                        _ => {
+                            let mut held = usual_box();
+                            assert_eq!(tcp(&mut held, 1, &message).0, 6);
+                            message[6..8].copy_from_slice(&[1, 0xFF]);
+                            let asks = data == b"STATget ";
+                            assert_eq!(udp(&mut held, &message), if asks { 8 } else { 6 });
+                            continue;
+                        }
+                    };
+                    assert_eq!(told_by_every_way(&message), told);
+                    // 1 to 4 come first, and have place 0.
+                    let mut held = usual_box();
+                    assert_eq!(tcp_in(&mut held, 1, 511, &message), (1, vec![]));
+                    assert_eq!(tcp(&mut held, 4, &message), (2, vec![]));
+                    assert_eq!(tcp(&mut held, 1, &message[..12]), (3, vec![]));
+                    message[6] = 9;
+                    assert_eq!(tcp(&mut held, 1, &message), (4, vec![]));
+                    assert_eq!(udp(&mut held, &message), 4);
+                }
+            }
+        }
+    }
+}
+
+// §8: "13 byte count, 14 checksum": the count at place 1, the checksum at the last byte, length - 1.
+#[test]
+fn which_part_of_an_rs232c_message() {
+    let mut held = usual_box();
+    // 6 to 258 bytes: a count of 255 is the largest.
+    for length in 6..=258 {
+        let good = serial(&vec![0x6F; length - 5]);
+        assert_eq!(good.len(), length);
+        assert_eq!(rs232(&mut held, 1, &good), nak(6));
+        let mut bytes = good.clone();
+        bytes[length - 1] ^= 0x10;
+        assert_eq!(rs232_at(&mut held, 1, &bytes), nak_at(14, length - 1));
+        // Another byte in the block is a wrong sum too: the checksum is told, wherever the slip is.
+        let mut bytes = good.clone();
+        bytes[4] ^= 0x01;
+        assert_eq!(rs232_at(&mut held, 1, &bytes), nak_at(14, length - 1));
+        // A wrong count, with the sum that fits it and without.
+        for count in [0, 1, 2, 3, good[1].wrapping_add(1), good[1].wrapping_sub(1)] {
+            let mut bytes = good.clone();
+            let less = count.wrapping_sub(bytes[1]);
+            bytes[1] = count;
+            if less != 0 {
+                assert_eq!(rs232_at(&mut held, 1, &bytes), nak_at(13, 1));
+                bytes[length - 1] = bytes[length - 1].wrapping_sub(less);
+                assert_eq!(rs232_at(&mut held, 1, &bytes), nak_at(13, 1));
+            }
+        }
+    }
+    // No count fits 259 bytes and more: 256 of them more than 6 are 03h again.
+    for more in [253, 254, 256, 1000] {
+        let mut bytes = serial(&[0x6E]);
+        bytes.extend(vec![0; more]);
+        assert_eq!(rs232_at(&mut held, 1, &bytes), nak_at(13, 1));
+    }
+    assert_eq!(held, usual_box());
+}
+
+// §8: of an RS-232C message too, 1 to 4 come first and have place 0, and 6 comes behind.
+#[test]
+fn the_first_wrong_part_of_an_rs232c_message() {
+    let mut held = usual_box();
+    for (count, last) in [(3, 0x4E), (4, 0x4C), (4, 0x4D)] {
+        let bytes = [0x02, count, 0x01, 0x41, 0x6E, last];
+        let told = if count == 3 { (14, 5) } else { (13, 1) };
+        assert_eq!(rs232_at(&mut held, 1, &bytes), nak_at(told.0, told.1));
+        assert_eq!(rs232_in(&mut held, 1, 511, &bytes), (1, vec![]));
+        assert_eq!(rs232(&mut held, 4, &bytes), (2, vec![]));
+        assert_eq!(rs232(&mut held, 1, &bytes[..5]), (3, vec![]));
+        for (place, byte) in [(0, 0x03), (2, 0x02), (3, 0x40), (3, 0x80)] {
+            let mut bytes = bytes;
+            bytes[place] = byte;
+            assert_eq!(rs232(&mut held, 1, &bytes), (4, vec![]));
+        }
+    }
+    // 6Fh is no command: 6 where nothing of the envelope is wrong.
+    assert_eq!(rs232(&mut held, 1, &hex("02 03 01 41 6F 4C")), nak(6));
+    let told = rs232_at(&mut held, 1, &hex("02 03 01 41 6F 4D"));
+    assert_eq!(told, nak_at(14, 5));
+    let told = rs232_at(&mut held, 1, &hex("02 05 01 41 6F 4A"));
+    assert_eq!(told, nak_at(13, 1));
     assert_eq!(held, usual_box());
 }
 

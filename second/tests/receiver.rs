@@ -98,12 +98,42 @@ fn the_search_goes_on_behind_an_overlong_header() {
     let mut receiver = Receiver::empty();
     assert_eq!(all_of(&mut receiver, &stream), [twice, set.clone()]);
     assert_eq!(receiver, left_with(b""));
-    // As a message it is 5, and 4 where nobody is addressed.
+    // As a message it is 11, and 4 where nobody is addressed.
     let mut held = usual_box();
-    assert_eq!(tcp(&mut held, 1, &overlong).0, 5);
+    assert_eq!(tcp_at(&mut held, 1, &overlong), (11, 11, ng(0, 0)));
     let mut to_nobody = overlong;
     to_nobody[6] = 9;
     assert_eq!(tcp(&mut held, 1, &to_nobody), (4, vec![]));
+}
+
+// §8: "The overlong header of §1 gives 9 or 10 if those fields are wrong, else 11." The receiver looks
+// at neither, and hands out its 13 bytes all the same.
+#[test]
+fn what_an_overlong_header_is_told() {
+    for length in [500, 501, 0x0200, 0xFFFF] {
+        for (request, item, told) in [
+            (0x00, [0xB0, 0x00], (11, 11)),
+            (0x01, [0xB0, 0x00], (9, 8)),
+            (0x00, [0xB0, 0x01], (10, 9)),
+            (0x00, [0xA0, 0x00], (10, 9)),
+            (0xFF, [0xA0, 0x01], (9, 8)),
+        ] {
+            let mut bytes = header(length);
+            bytes[8] = request;
+            bytes[9..11].copy_from_slice(&item);
+            let stream = [&b"\x03"[..], &bytes, &[b'A'; 500]].concat();
+            let packets = all_of(&mut Receiver::empty(), &stream);
+            assert_eq!(packets, [bytes.clone()]);
+            let mut reply = ng(0, 0);
+            reply[9..11].copy_from_slice(&item);
+            let mut held = usual_box();
+            let (number, place) = told;
+            assert_eq!(tcp_at(&mut held, 1, &packets[0]), (number, place, reply));
+            bytes[6] = 9;
+            assert_eq!(tcp(&mut held, 1, &bytes), (4, vec![]));
+            assert_eq!(held, usual_box());
+        }
+    }
 }
 
 // Nothing inside a packet begins another: its data may hold whole packets, or begin one that goes
@@ -223,7 +253,7 @@ impl Chance {
 
 /// Every packet that a stream in these pieces hands out, what the box replies to it, the box after
 /// them, and the record.
-type AtTheEnd = (Vec<(Vec<u8>, Told)>, DisplayBox, Receiver);
+type AtTheEnd = (Vec<(Vec<u8>, ToldAt)>, DisplayBox, Receiver);
 
 fn at_the_end(record: &Receiver, pieces: &[&[u8]]) -> AtTheEnd {
     let mut receiver = record.clone();
@@ -231,7 +261,7 @@ fn at_the_end(record: &Receiver, pieces: &[&[u8]]) -> AtTheEnd {
     let mut told = Vec::new();
     for piece in pieces {
         for packet in all_of(&mut receiver, piece) {
-            let reply = tcp(&mut held, 1, &packet);
+            let reply = tcp_at(&mut held, 1, &packet);
             told.push((packet, reply));
         }
     }

@@ -236,6 +236,82 @@ fn each_link_has_a_receiver_of_its_own() {
     assert_eq!(answers(script.as_bytes()), text);
 }
 
+// "a message's answer is written `answer A at P` where P is not 0, before ` reply`".
+#[test]
+fn an_answer_with_its_place() {
+    for (order, text) in [
+        // Request 01h, item B001h, a length of 500, a length of 1 with no data, and no fault but 6.
+        (
+            "tcp 1 512 030B534F4E59000001B0000000",
+            "answer 9 at 8 reply 030B534F4E59000000B0000002F050",
+        ),
+        (
+            "tcp 1 512 030B534F4E59000000B0010000",
+            "answer 10 at 9 reply 030B534F4E59000000B0010002F050",
+        ),
+        (
+            "tcp 1 512 030B534F4E59000000B00001F4",
+            "answer 11 at 11 reply 030B534F4E59000000B0000002F050",
+        ),
+        (
+            "tcp 1 512 030B534F4E59000000B0000001",
+            "answer 12 at 11 reply 030B534F4E59000000B0000002F050",
+        ),
+        (
+            "tcp 1 512 030B534F4E59000000B0000000",
+            "answer 6 reply 030B534F4E59000001B0000000",
+        ),
+        ("tcp 1 511 030B534F4E59000001B0000000", "answer 1 reply -"),
+        ("tcp 2 512 030B534F4E59000001B0000000", "answer 2 reply -"),
+        ("udp 030B534F4E59FFFF01B0000000", "answer 9 at 8"),
+        ("udp 030B534F4E5901FF00B0010000", "answer 10 at 9"),
+        ("udp 030B534F4E59FFFF00B00001F4", "answer 11 at 11"),
+        ("udp 030B534F4E5901FF00B0000001", "answer 12 at 11"),
+        ("udp 030B534F4E59FFFF00B0000000", "answer 6"),
+        ("udp 030B534F4E590FFF01B0000000", "answer 4"),
+        // A count of 04h for six bytes, a last byte of 4Eh for 4Dh, and of FFh in seven bytes.
+        (
+            "rs232 1 512 020401416E4C",
+            "answer 13 at 1 reply 0203410105B6",
+        ),
+        (
+            "rs232 1 512 020301416E4E",
+            "answer 14 at 5 reply 0203410105B6",
+        ),
+        (
+            "rs232 1 512 020401416101FF",
+            "answer 14 at 6 reply 0203410105B6",
+        ),
+        ("rs232 1 512 020301406E4E", "answer 4 reply -"),
+        ("advert 00", "answer 3"),
+    ] {
+        let written = answers(format!("box W 1 1 K 0 0\n{order}\n").as_bytes());
+        assert_eq!(written, format!("box 0\n{text}\n"), "{order}");
+    }
+    // Off the wire the same: overlong headers with and without another fault, and a whole packet.
+    for (packet, told) in [
+        ("030B534F4E59000000B0000258", "11 at 11"),
+        ("030B534F4E59000002B0000258", "9 at 8"),
+        ("030B534F4E59000002B0000000", "9 at 8"),
+    ] {
+        let script = format!("box W 1 1\npiece 1 512 FF{packet}0003\n");
+        let reply = "030B534F4E59000000B0000002F050";
+        let text = format!("box 0\npacket {packet}\nanswer {told} reply {reply}\nheld 1\n");
+        assert_eq!(answers(script.as_bytes()), text);
+    }
+}
+
+// §8: "and so does 5 for adverts", with place 0: nothing stands behind the number.
+#[test]
+fn adverts_keep_5() {
+    // Power is 2 in both.
+    let read = format!("4441040B534F4E59{}0002{}", "00".repeat(16), "00".repeat(96));
+    let (twelve, more) = ("00".repeat(12), "00".repeat(24));
+    let written = format!("122 11 {twelve} 0 2 {more} 0 0 0 0 0 0 {more} {more} 1 1");
+    let script = format!("advert {read}\nwrite {written}\n");
+    assert_eq!(answers(script.as_bytes()), "answer 5\nanswer 5 reply -\n");
+}
+
 // 1,024 bytes are the longest piece: 78 packets without data, and 10 bytes.
 #[test]
 fn the_longest_piece() {

@@ -1,9 +1,10 @@
 /*
  * The calls on boxes, from C: boxes that break the rules, two boxes at once,
  * every way in and every number that is none, every length of message, area and
- * configuration, the codes of the remote control, and the bench examples. Box,
- * message and area stand alone in memory with their exact sizes. What is expected
- * is worked out here, from the documents, and not taken from the box.
+ * configuration, envelopes of which one part is wrong or several, the codes of the
+ * remote control, and the bench examples. Box, message and area stand alone in
+ * memory with their exact sizes. What is expected is worked out here, from the
+ * documents, and not taken from the box.
  */
 #include "areas.h"
 #include "messages.h"
@@ -13,33 +14,68 @@
 static struct place box_place, other_place, message_place, area_place, panel_place;
 static const struct display_box no_panels;
 
-/* ---- what document 01 says of a message whose contents are never understood */
+/* ---- what the documents say of a message whose contents are never understood */
 
 struct told {
     uint8_t answer;
+    uint16_t place;
     size_t length;
     uint8_t reply[64];
 };
 
-static struct told told(uint8_t answer, const void *reply, size_t length)
+static struct told told_at(uint8_t answer, size_t place, const void *reply, size_t length)
 {
-    struct told t = { answer, length, { 0 } };
+    struct told t = { answer, (uint16_t)place, length, { 0 } };
     memcpy(t.reply, reply, length);
     return t;
 }
 
+/* Document 02, §8: "other answers have place 0" */
+static struct told told(uint8_t answer, const void *reply, size_t length) { return told_at(answer, 0, reply, length); }
+
 static struct told quiet(uint8_t answer) { return told(answer, "", 0); }
 
-/* "RS-232C NAK" goes with 5 and with 6. */
+/* Of an envelope the first part that is wrong: its number, and "the place of the first byte of the guilty field"; number 0 where none is. */
+struct part {
+    uint8_t number;
+    size_t place;
+};
+
+/* "13 byte count, 14 checksum; in that order" */
+static struct part rs232c_part(const uint8_t *m, size_t n)
+{
+    if (m[1] != n - 3)
+        return (struct part){ 13, 1 };
+    if (m[n - 1] != checksum_of(m + 1, n - 2))
+        return (struct part){ 14, n - 1 };
+    return (struct part){ 0, 0 };
+}
+
+/* "9 request, 10 item, 11 over 499, 12 not matching" */
+static struct part sdcp_part(const uint8_t *m, size_t n)
+{
+    size_t length = (size_t)m[11] * 256 + m[12];
+    if (m[8] != 0x00)
+        return (struct part){ 9, 8 };
+    if (m[9] != 0xB0 || m[10] != 0x00)
+        return (struct part){ 10, 9 };
+    if (length > 499)
+        return (struct part){ 11, 11 };
+    if (length != n - 13)
+        return (struct part){ 12, 11 };
+    return (struct part){ 0, 0 };
+}
+
+/* "RS-232C NAK" goes with a wrong part and with 6. */
 static struct told rs232c_told(const uint8_t *m, size_t n)
 {
     if (n < 6)
         return quiet(3);
     if (m[0] != 0x02 || m[2] != 0x01 || m[3] < 0x41 || m[3] > 0x7F)
         return quiet(4);
-    int is_whole = m[1] == n - 3 && m[n - 1] == checksum_of(m + 1, n - 2);
+    struct part part = rs232c_part(m, n);
     struct message nak = frame_between(m[3], 0x01, "\x05", 1);
-    return told(is_whole ? 6 : 5, nak.bytes, nak.length);
+    return told_at(part.number == 0 ? 6 : part.number, part.place, nak.bytes, nak.length);
 }
 
 static struct told kjw_told(const uint8_t *m, size_t n)
@@ -85,20 +121,20 @@ static int asks_status(const uint8_t *data, size_t n)
     return n >= 7 && memcmp(data, "STATget", 7) == 0 && (n == 7 || data[7] == ' ');
 }
 
-/* By TCP NG goes with 5 and OK without data with 6; by UDP nothing, and a question is 8 behind 5 and before 6. */
+/* By TCP NG goes with a wrong part and OK without data with 6; by UDP nothing, and a question is 8 behind the parts and before 6. */
 static struct told sdcp_told(const struct display_box *box, uint8_t way, const uint8_t *m, size_t n)
 {
     if (n < 13)
         return quiet(3);
     if (memcmp(m, "\x03\x0BSONY", 6) != 0 || !is_anybody_called(box, way, m[6], m[7]))
         return quiet(4);
-    size_t length = (size_t)m[11] * 256 + m[12];
-    int is_whole = m[8] == 0x00 && m[9] == 0xB0 && m[10] == 0x00 && length <= 499 && length == n - 13;
+    struct part part = sdcp_part(m, n);
+    int is_whole = part.number == 0;
     if (way == BOX_WAY_UDP)
-        return quiet(!is_whole ? 5 : asks_status(m + 13, n - 13) ? 8 : 6);
+        return is_whole ? quiet(asks_status(m + 13, n - 13) ? 8 : 6) : told_at(part.number, part.place, "", 0);
     uint8_t reply[15] = { 0, 0, 0, 0, 0, 0, 0, 0, is_whole, m[9], m[10], 0, is_whole ? 0 : 2, 0xF0, 0x50 };
     memcpy(reply, m, 8);
-    return told(is_whole ? 6 : 5, reply, is_whole ? 13 : 15);
+    return told_at(is_whole ? 6 : part.number, part.place, reply, is_whole ? 13 : 15);
 }
 
 /* A box that breaks the rules is told as the box of no panels. The numbers that are no way in are 2, by this project's decision. */
@@ -130,7 +166,7 @@ static int is_filled(const uint8_t *bytes, size_t n, uint8_t value)
 
 static int is_same(const void *a, const void *b, size_t n) { return n == 0 || memcmp(a, b, n) == 0; }
 
-/* Answer, reply, the area behind it, the message and the box afterwards are as told. */
+/* Answer, place, reply, the area behind it, the message and the box afterwards are as told. */
 static void takes(const struct display_box *before, uint8_t way, size_t link, const uint8_t *bytes, size_t n, size_t room,
                   const struct told *want, const struct display_box *after)
 {
@@ -139,6 +175,7 @@ static void takes(const struct display_box *before, uint8_t way, size_t link, co
     uint8_t *area = stand_filled(&area_place, 0xA5, room);
     struct box_outcome o = box_take(box, way, link, message, n, area, room);
     expect(o.answer == want->answer, "answer, and the one expected", o.answer, want->answer);
+    expect(o.place == want->place, "place, and the one expected", o.place, want->place);
     expect(o.length == want->length, "length, and the one expected", (long)o.length, (long)want->length);
     expect(is_same(area, want->reply, want->length), "the reply's bytes", way, (long)n);
     expect(room == 0 || is_filled(area + want->length, room - want->length, 0xA5), "the area behind the reply", way, (long)room);
@@ -334,6 +371,80 @@ static void questions_by_broadcast(void)
     }
 }
 
+/* ---- envelopes of which a part is wrong, or several (document 02, §8) */
+
+/* In areas that are too small and in one that is not, and of a box that breaks a rule too. */
+static void refuses_everywhere(const struct display_box *box, uint8_t way, const struct message *m)
+{
+    static const size_t rooms[] = { 0, 511, BOX_AREA_LENGTH };
+    struct display_box garbage = *box;
+    garbage.count = 9;
+    for (size_t r = 0; r < LENGTH_OF(rooms); r++) {
+        refuses(box, box, way, 1, m->bytes, m->length, rooms[r]);
+        refuses(&garbage, &no_panels, way, 1, m->bytes, m->length, rooms[r]);
+    }
+}
+
+/* The packet with that in its envelope, be it true or not: to the link's panel, to all, and to nobody, which is 4 before all of it. */
+static void refuses_envelope(const struct display_box *box, struct message m, uint8_t request, unsigned item, size_t length)
+{
+    static const uint8_t ids[] = { 0x00, 0xFF, 99 };
+    m.bytes[8] = request;
+    m.bytes[9] = (uint8_t)(item / 256);
+    m.bytes[10] = (uint8_t)(item % 256);
+    m.bytes[11] = (uint8_t)(length / 256);
+    m.bytes[12] = (uint8_t)(length % 256);
+    for (size_t i = 0; i < sizeof ids; i++) {
+        m.bytes[6] = m.bytes[7] = ids[i];
+        refuses_everywhere(box, BOX_WAY_TCP, &m);
+        refuses_everywhere(box, BOX_WAY_UDP, &m);
+    }
+}
+
+/* Each part of the envelope right and wrong, beside each of the others. */
+static void every_envelope(const struct display_box *box, const char *data)
+{
+    static const uint8_t requests[] = { 0x00, 0x01, 0xFF };
+    static const unsigned items[] = { 0xB000, 0xB001, 0xB100, 0x00B0 };
+    size_t n = strlen(data);
+    const size_t lengths[] = { n, n + 1, n + 256, 0, 499, 500, 65535 };
+    for (size_t r = 0; r < LENGTH_OF(requests); r++)
+        for (size_t i = 0; i < LENGTH_OF(items); i++)
+            for (size_t l = 0; l < LENGTH_OF(lengths); l++)
+                refuses_envelope(box, sdcp_packet(0, 0, data), requests[r], items[i], lengths[l]);
+}
+
+/* In front of a question, of words that say too little, and of as much data as an envelope can have, one byte less and one more. */
+static void envelopes(void)
+{
+    static const char *const words[] = { "", "STATget", "STATset" };
+    struct display_box box = box_of("WK");
+    for (size_t i = 0; i < LENGTH_OF(words); i++)
+        every_envelope(&box, words[i]);
+    for (size_t n = 498; n <= 500; n++) {
+        char data[501] = { 0 };
+        memset(data, 'x', n);
+        every_envelope(&box, data);
+    }
+}
+
+/* Frames of every length: byte counts that are right or not, each beside a checksum that is and one that is not. */
+static void every_frame(void)
+{
+    struct display_box box = box_of("WK");
+    for (size_t n = 6; n <= 260; n++) {
+        const size_t counts[] = { n - 3, n - 2, n - 4, 0, 255 };
+        for (size_t c = 0; c < LENGTH_OF(counts); c++)
+            for (uint8_t off = 0; off < 2; off++) {
+                struct message m = { { 0 }, n };
+                lay_whole(m.bytes, n, BOX_WAY_RS232C);
+                m.bytes[1] = (uint8_t)counts[c];
+                m.bytes[n - 1] = (uint8_t)(checksum_of(m.bytes + 1, n - 2) + off);
+                refuses_everywhere(&box, BOX_WAY_RS232C, &m);
+            }
+    }
+}
+
 /* An empty area is (NULL, 0) everywhere else in this file; here it stands at the end of another. */
 static void empty_but_not_null(void)
 {
@@ -344,7 +455,7 @@ static void empty_but_not_null(void)
     expect(box_take_tcp(&box, 1, ends, 0, area, BOX_AREA_LENGTH).answer == 3, "an empty packet", 0, 0);
     expect(box_take_rs232c(&box, 1, ends, 0, area, BOX_AREA_LENGTH).answer == 3, "an empty RS-232C frame", 0, 0);
     expect(box_take_kjw(&box, 2, ends, 0, area, BOX_AREA_LENGTH).answer == 3, "an empty KJW frame", 0, 0);
-    expect(box_take_udp(&box, ends, 0) == 3, "an empty broadcast", 0, 0);
+    expect(box_take_udp(&box, ends, 0).answer == 3, "an empty broadcast", 0, 0);
     expect(box_take_tcp(&box, 1, m.bytes, m.length, ends, 0).answer == 1, "an empty area", 0, 0);
     expect(box_configure(&box, ends, 0) == 7, "an empty configuration", 0, 0);
 }
@@ -660,27 +771,28 @@ static const struct tried {
     const char *bytes;
     size_t length;
     uint8_t answer;
+    uint16_t place;
     const char *reply;
     size_t reply_length;
     void (*change)(struct display_box *);
 } bench[] = {
-    { BOX_WAY_RS232C, BYTES("\x02\x03\x01\x41\x6E\x4D"), 0, BYTES("\x02\x04\x41\x01\x7E\x01\x3B"), nothing },
-    { BOX_WAY_RS232C, BYTES("\x02\x08\x01\x41\x40\x21\xFF\x0F\x00\x04\x43"), 0,
+    { BOX_WAY_RS232C, BYTES("\x02\x03\x01\x41\x6E\x4D"), 0, 0, BYTES("\x02\x04\x41\x01\x7E\x01\x3B"), nothing },
+    { BOX_WAY_RS232C, BYTES("\x02\x08\x01\x41\x40\x21\xFF\x0F\x00\x04\x43"), 0, 0,
       BYTES("\x02\x03\x41\x01\x04\xB7"), gain_and_bias },
-    { BOX_WAY_RS232C, BYTES("\x02\x03\x01\x41\x6E\x4E"), 5, BYTES("\x02\x03\x41\x01\x05\xB6"), nothing },
-    { BOX_WAY_TCP, BYTES(SDCP("\0", "\x11") "STATset VOLUME 40"), 0, BYTES(OK), volume_40 },
-    { BOX_WAY_TCP, BYTES(SDCP("\0", "\x0E") "STATget VOLUME"), 0, BYTES(SDCP("\1", "\x09") "VOLUME 40"), nothing },
-    { BOX_WAY_TCP, BYTES(SDCP("\0", "\x12") "STATset VOLUME 100"), 0, BYTES(OK), volume_100 },
-    { BOX_WAY_TCP, BYTES(SDCP("\0", "\x12") "STATset VOLUME 101"), 6, BYTES(OK), nothing },
-    { BOX_WAY_TCP, BYTES(SDCP("\0", "\x12") "STATset SHIFTH -30"), 0, BYTES(OK), shift_30 },
-    { BOX_WAY_TCP, BYTES(SDCP("\0", "\x12") "STATset SHIFTH -31"), 6, BYTES(OK), nothing },
-    { BOX_WAY_TCP, BYTES(SDCP("\0", "\x11") "STATset SHIFTH -0"), 6, BYTES(OK), nothing },
-    { BOX_WAY_TCP, BYTES(SDCP("\1", "\x11") "STATset VOLUME 40"), 5, BYTES(SDCP("\0", "\2") "\xF0\x50"), nothing },
-    { BOX_WAY_TCP, BYTES("\x03\x0Bsony\0\0\0\xB0\0\0\x11STATset VOLUME 40"), 4, BYTES(""), nothing },
-    { BOX_WAY_KJW, BYTES("*SCPOWR0000000000000001\n"), 0,
+    { BOX_WAY_RS232C, BYTES("\x02\x03\x01\x41\x6E\x4E"), 14, 5, BYTES("\x02\x03\x41\x01\x05\xB6"), nothing },
+    { BOX_WAY_TCP, BYTES(SDCP("\0", "\x11") "STATset VOLUME 40"), 0, 0, BYTES(OK), volume_40 },
+    { BOX_WAY_TCP, BYTES(SDCP("\0", "\x0E") "STATget VOLUME"), 0, 0, BYTES(SDCP("\1", "\x09") "VOLUME 40"), nothing },
+    { BOX_WAY_TCP, BYTES(SDCP("\0", "\x12") "STATset VOLUME 100"), 0, 0, BYTES(OK), volume_100 },
+    { BOX_WAY_TCP, BYTES(SDCP("\0", "\x12") "STATset VOLUME 101"), 6, 0, BYTES(OK), nothing },
+    { BOX_WAY_TCP, BYTES(SDCP("\0", "\x12") "STATset SHIFTH -30"), 0, 0, BYTES(OK), shift_30 },
+    { BOX_WAY_TCP, BYTES(SDCP("\0", "\x12") "STATset SHIFTH -31"), 6, 0, BYTES(OK), nothing },
+    { BOX_WAY_TCP, BYTES(SDCP("\0", "\x11") "STATset SHIFTH -0"), 6, 0, BYTES(OK), nothing },
+    { BOX_WAY_TCP, BYTES(SDCP("\1", "\x11") "STATset VOLUME 40"), 9, 8, BYTES(SDCP("\0", "\2") "\xF0\x50"), nothing },
+    { BOX_WAY_TCP, BYTES("\x03\x0Bsony\0\0\0\xB0\0\0\x11STATset VOLUME 40"), 4, 0, BYTES(""), nothing },
+    { BOX_WAY_KJW, BYTES("*SCPOWR0000000000000001\n"), 0, 0,
       BYTES("*SAPOWR0000000000000000\n*SNPOWR0000000000000001\n"), power },
-    { BOX_WAY_KJW, BYTES("*SCPOWR0000000000000001\n"), 0, BYTES("*SAPOWR0000000000000000\n"), nothing },
-    { BOX_WAY_KJW, BYTES("*SCINPT0000000100000000\n"), 6, BYTES("*SAINPTFFFFFFFFFFFFFFFF\n"), nothing },
+    { BOX_WAY_KJW, BYTES("*SCPOWR0000000000000001\n"), 0, 0, BYTES("*SAPOWR0000000000000000\n"), nothing },
+    { BOX_WAY_KJW, BYTES("*SCINPT0000000100000000\n"), 6, 0, BYTES("*SAINPTFFFFFFFFFFFFFFFF\n"), nothing },
 };
 
 /* On one box, one after the other. That a data length of 499 passes and 500 does not is in every_length. */
@@ -689,7 +801,7 @@ static void at_the_bench(void)
     struct display_box box = box_of("WK");
     for (size_t i = 0; i < LENGTH_OF(bench); i++) {
         const struct tried *t = &bench[i];
-        struct told want = told(t->answer, t->reply, t->reply_length);
+        struct told want = told_at(t->answer, t->place, t->reply, t->reply_length);
         struct display_box after = box;
         t->change(&after);
         takes(&box, t->way, t->way == BOX_WAY_KJW ? 2 : 1, (const uint8_t *)t->bytes, t->length, BOX_AREA_LENGTH, &want, &after);
@@ -706,6 +818,8 @@ int main(void)
         udp_looks_at_neither();
         addresses();
         questions_by_broadcast();
+        envelopes();
+        every_frame();
         empty_but_not_null();
         broken_boxes();
         configurations();

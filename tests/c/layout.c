@@ -15,7 +15,7 @@
 #define AT(record, field, sum) _Static_assert(offsetof(struct record, field) == (sum), #record "." #field)
 #define SIZE(record, sum) _Static_assert(sizeof(struct record) == (sum), #record)
 
-_Static_assert(BOX_LAYOUT == 2, "the number of these sizes and offsets: another sum, another number");
+_Static_assert(BOX_LAYOUT == 2, "the number of the sizes and offsets of a box: another sum, another number");
 _Static_assert(BOX_PANELS == 8 && BOX_CONNECTORS == 10, "panels and connectors");
 _Static_assert(BOX_SETTINGS == 3 + 3 + 12 + 1 && BOX_SHIFTS == 2, "levels, choices, switches and the flip; shifts");
 _Static_assert(BOX_FAMILY_W == 'W' && BOX_FAMILY_K == 'K', "families");
@@ -64,8 +64,12 @@ AT(display_box, panels, 8);
 SIZE(display_box, 8 + 8 * 58);
 _Static_assert(_Alignof(struct display_box) == 8, "a box is aligned as its count");
 
-/* The one record with padding: it is handed back by value, and lies in no box. */
+/*
+ * The one record with padding: it is handed back by value, and lies in no box. A
+ * host that was compiled before there was a place finds answer and length here too.
+ */
 AT(box_outcome, answer, 0);
+AT(box_outcome, place, 2);
 AT(box_outcome, length, 8);
 SIZE(box_outcome, 8 + 8);
 

@@ -110,7 +110,7 @@ static struct box_received receives(struct box_receiver *r, const uint8_t *piece
     return receives_as(r, piece, length, &want, "taken and length");
 }
 
-/* What a stream brought: each packet behind its length in two bytes, and, where there is a box, each answer and reply in the same way. */
+/* What a stream brought: each packet behind its length in two bytes, and, where there is a box, answer, place and reply in the same way. */
 struct brought {
     struct display_box *box;
     uint8_t bytes[8192];
@@ -139,7 +139,7 @@ static void take_packet(struct brought *b, size_t length)
         return;
     uint8_t *area = stand_filled(&area_place, 0xA5, BOX_AREA_LENGTH);
     struct box_outcome o = box_take_tcp(b->box, 1, packet, length, area, BOX_AREA_LENGTH);
-    note(b, &o.answer, 1);
+    note(b, (const uint8_t[]){ o.answer, (uint8_t)(o.place / 256), (uint8_t)(o.place % 256) }, 3);
     note(b, area, o.length);
 }
 
@@ -232,18 +232,27 @@ static void holds_at_most_512(void)
     receives_as(&r, stand_copy(&piece_place, long_one, BOX_PACKET_LENGTH - 1), BOX_PACKET_LENGTH - 1, &want, "511 bytes are held");
 }
 
-/* "document 01: 5, or 4 if nobody is addressed": group 7 has no panel, and 0/0 is the link's own. */
+/*
+ * Document 02, §8: "9 or 10 if those fields are wrong, else 11", and 4 before these
+ * if nobody is addressed: group 7 has no panel, and 0/0 is the link's own.
+ */
 static void overlong_headers_are_answered(void)
 {
-    static const struct { uint8_t group, answer; size_t length; } headers[] = { { 0, BOX_ENVELOPE_WRONG, 15 }, { 7, BOX_NOT_FOR_US, 0 } };
+    static const struct { uint8_t group, request, item, answer; uint16_t place; size_t length; } headers[] = {
+        { 0, 0x00, 0xB0, BOX_DATA_TOO_LONG, 11, 15 }, { 0, 0x01, 0xB0, BOX_REQUEST_WRONG, 8, 15 }, { 0, 0x00, 0xB1, BOX_ITEM_WRONG, 9, 15 },
+        { 0, 0x01, 0xB1, BOX_REQUEST_WRONG, 8, 15 },  { 7, 0x01, 0xB1, BOX_NOT_FOR_US, 0, 0 },
+    };
     for (size_t i = 0; i < LENGTH_OF(headers); i++) {
         uint8_t header[] = OVERLONG, area[BOX_AREA_LENGTH];
         struct display_box box = box_of("W");
         struct box_receiver r = holding(NULL, 0);
         header[6] = header[7] = headers[i].group;
+        header[8] = headers[i].request;
+        header[9] = headers[i].item;
         struct box_received got = receives(&r, stand_copy(&piece_place, header, 13), 13);
         struct box_outcome o = box_take_tcp(&box, 1, packet, got.length, area, sizeof area);
-        expect(o.answer == headers[i].answer && o.length == headers[i].length, "an overlong header's answer", o.answer, (long)o.length);
+        expect(o.answer == headers[i].answer && o.place == headers[i].place, "an overlong header's answer and place", o.answer, o.place);
+        expect(o.length == headers[i].length, "an overlong header's reply", o.answer, (long)o.length);
     }
 }
 

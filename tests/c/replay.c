@@ -41,10 +41,10 @@ static size_t words_of(char *line, char **words)
 /* ---- what is written */
 
 /* The reply at the area's front; the area was filled with A5h. */
-static void put_reply(int answer, const uint8_t *area, size_t length, size_t room)
+static void put_reply(const uint8_t *area, size_t length, size_t room)
 {
     bool spoiled = false;
-    printf("answer %d reply ", answer);
+    printf(" reply ");
     put_hex(area, length);
     for (size_t i = length; i < room; i++)
         spoiled = spoiled || area[i] != 0xA5;
@@ -116,7 +116,8 @@ static void carry(way_in *take, size_t link, const uint8_t *bytes, size_t length
 {
     uint8_t *area = stand_filled(&area_place, 0xA5, room);
     struct box_outcome o = take(the_box, link, stand_copy(&bytes_place, bytes, length), length, area, room);
-    put_reply(o.answer, area, o.length, room);
+    put_answer(o.answer, o.place);
+    put_reply(area, o.length, room);
 }
 
 static bool message(char **words, way_in *take)
@@ -177,7 +178,9 @@ static bool udp(char **words, size_t n)
     (void)n;
     if (!hex(words[1], &m))
         return false;
-    printf("answer %d\n", box_take_udp(the_box, stand_copy(&bytes_place, m.at, m.length), m.length));
+    struct box_outcome o = box_take_udp(the_box, stand_copy(&bytes_place, m.at, m.length), m.length);
+    put_answer(o.answer, o.place);
+    printf("\n");
     return true;
 }
 
@@ -223,8 +226,8 @@ static bool advert(char **words, size_t n)
     (void)n;
     if (!hex(words[1], &b))
         return false;
-    int answer = box_advert_read(stand_copy(&bytes_place, b.at, b.length), b.length);
-    printf("answer %d", answer);
+    uint8_t answer = box_advert_read(stand_copy(&bytes_place, b.at, b.length), b.length);
+    put_answer(answer, 0);
     if (answer == BOX_DONE)
         put_fields(b.at);
     printf("\n");
@@ -249,10 +252,11 @@ static bool write_advert(char **words, size_t n)
         }
     }
     uint8_t *area = stand_filled(&area_place, 0xA5, v[1]);
-    int answer = box_advert_write((uint8_t)v[2], t[0], texts[0].length, v[4], (uint16_t)v[5], t[1], texts[1].length,
-                                  v[7], v[8], v[9], v[10], v[11], (uint16_t)v[12], t[2], texts[2].length,
-                                  t[3], texts[3].length, (uint8_t)v[15], (uint8_t)v[16], area, v[1]);
-    put_reply(answer, area, answer == BOX_DONE ? BOX_ADVERT_LENGTH : 0, v[1]);
+    uint8_t answer = box_advert_write((uint8_t)v[2], t[0], texts[0].length, v[4], (uint16_t)v[5], t[1], texts[1].length,
+                                      v[7], v[8], v[9], v[10], v[11], (uint16_t)v[12], t[2], texts[2].length,
+                                      t[3], texts[3].length, (uint8_t)v[15], (uint8_t)v[16], area, v[1]);
+    put_answer(answer, 0);
+    put_reply(area, answer == BOX_DONE ? BOX_ADVERT_LENGTH : 0, v[1]);
     return true;
 }
 

@@ -391,7 +391,7 @@ static void frames_rs232c(int console)
              "panel 1: RS-232C: carried out, 6 bytes back");
     exchange(console, BYTES(BIASES), BYTES(0x02, 0x0A, 0x41, 0x01, 0x71, 0x02, 0x0D, 0x00, 0x11, 0x00, 0x13, 0x00, 0x10),
              "panel 1: RS-232C: carried out, 13 bytes back");
-    exchange(console, BYTES(SPOILED), BYTES(NAK), "panel 1: RS-232C: envelope wrong, 6 bytes back");
+    exchange(console, BYTES(SPOILED), BYTES(NAK), "panel 1: RS-232C: checksum wrong at byte 5, 6 bytes back");
     /* no command 10h */
     exchange(console, BYTES(0x02, 0x03, 0x01, 0x41, 0x10, 0xAB), BYTES(NAK),
              "panel 1: RS-232C: contents not understood, 6 bytes back");
@@ -420,7 +420,7 @@ static void pieces_rs232c(int console)
     send_one_by_one(console, BYTES(GAINS));
     expect_reply(console, BYTES(GAINS_SET));
     expect_line("panel 1: RS-232C: carried out, 13 bytes back");
-    exchange(console, BYTES(SPOILED, REMOTE), BYTES(NAK, REMOTE_REPLY), "panel 1: RS-232C: envelope wrong, 6 bytes back");
+    exchange(console, BYTES(SPOILED, REMOTE), BYTES(NAK, REMOTE_REPLY), "panel 1: RS-232C: checksum wrong at byte 5, 6 bytes back");
     expect_line("panel 1: RS-232C: carried out, 7 bytes back");
     exchange(console, BYTES(REMOTE, 0x02, 0x03, 0x01), BYTES(REMOTE_REPLY), "panel 1: RS-232C: carried out, 7 bytes back");
     exchange(console, BYTES(0x41, 0x6E, 0x4D), BYTES(REMOTE_REPLY), "panel 1: RS-232C: carried out, 7 bytes back");
@@ -472,7 +472,9 @@ static void packets_sdcp(int console)
     exchange(console, TEXT(VOLUME_ASKED), TEXT(VOLUME_IS("40")), "panel 1: SDCP: carried out, 22 bytes back");
     exchange(console, TEXT(OWN "\x00\xB0\x00\x00\x12" "STATset VOLUME 101"), TEXT(DONE),
              "panel 1: SDCP: contents not understood, 13 bytes back");
-    exchange(console, TEXT(OWN "\x01" NO_DATA), TEXT(NG), "panel 1: SDCP: envelope wrong, 15 bytes back");
+    exchange(console, TEXT(OWN "\x01" NO_DATA), TEXT(NG), "panel 1: SDCP: request wrong at byte 8, 15 bytes back");
+    exchange(console, TEXT(OWN "\x00\xB0\x01\x00\x00"), TEXT(OWN "\x00\xB0\x01\x00\x02\xF0\x50"),
+             "panel 1: SDCP: item wrong at byte 9, 15 bytes back");
     /* 9/9 is no panel; no reply, as the next reply shows */
     exchange(console, TEXT(TO("\x09", "\x09") "\x00" NO_DATA), NULL, 0, "panel 1: SDCP: not for us, 0 bytes back");
     exchange(console, TEXT(VOLUME_ASKED), TEXT(VOLUME_IS("40")), "panel 1: SDCP: carried out, 22 bytes back");
@@ -500,7 +502,7 @@ static void long_packets(int console)
     uint8_t bytes[13 + 500 + 27] = OWN "\x00\xB0\x00\x01\xF4";
     memset(bytes + 13, ' ', 500);
     memcpy(bytes + 13 + 500, VOLUME_ASKED, 27);
-    exchange(console, bytes, sizeof bytes, TEXT(NG VOLUME_IS("55")), "panel 1: SDCP: envelope wrong, 15 bytes back");
+    exchange(console, bytes, sizeof bytes, TEXT(NG VOLUME_IS("55")), "panel 1: SDCP: data length over 499 at byte 11, 15 bytes back");
     expect_line("panel 1: SDCP: carried out, 22 bytes back");
     bytes[12] = 0xF3;
     exchange(console, bytes, 13 + 499, TEXT(DONE), "panel 1: SDCP: contents not understood, 13 bytes back");

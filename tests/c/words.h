@@ -68,4 +68,12 @@ static inline void put_hex(const uint8_t *bytes, size_t n)
         printf("%02X", bytes[i]);
 }
 
+/* The number, and behind it the place that goes with it; 0 is none. */
+static inline void put_answer(unsigned answer, unsigned place)
+{
+    printf("answer %u", answer);
+    if (place != 0)
+        printf(" at %u", place);
+}
+
 #endif

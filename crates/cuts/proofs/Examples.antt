@@ -5,7 +5,8 @@ use mathlib.Core.Path.{_≡_, refl}
 use mathlib.Core.List.{List, [], _∷_, _++_}
 use lib.ListN.{getD, take, drop}
 use Rattle.laws.specs.Bytes.{ascii}
-use Rattle.terms.specs.declared.Answer.the-variants.{Done, EnvelopeWrong, NotUnderstood}
+use Rattle.terms.specs.declared.Answer.the-variants.{Done, NotUnderstood, PartWrong}
+use Rattle.terms.specs.declared.Part.the-variants.{TooLong}
 use Rattle.sdcp_asks.specs.Asks.{front}
 use Rattle.receiver.specs.declared.Receiver.{Receiver}
 use Rattle.receiver.specs.Calls.{holding}
@@ -45,7 +46,7 @@ pieces = take 5 bytes ∷ [] ∷ take 30 (drop 5 bytes) ∷ take 23 (drop 35 byt
 abbrev seen : List Exchange
 seen =
     record { packet = set; answer = Done; reply = packet 0 0 0x01 0 0 [] } ∷
-    record { packet = header; answer = EnvelopeWrong; reply = packet 0 0 0x00 0 2 (0xf0 ∷ 0x50 ∷ []) } ∷
+    record { packet = header; answer = PartWrong TooLong; reply = packet 0 0 0x00 0 2 (0xf0 ∷ 0x50 ∷ []) } ∷
     record { packet = like; answer = NotUnderstood; reply = packet 0 0 0x01 0 0 [] } ∷
     []
 

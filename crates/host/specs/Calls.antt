@@ -24,9 +24,9 @@ pub record WrittenForC (a : Advert) (area : List ℕ) (r : ℕ) (area′ : List 
   pub answer : r ≡ numberOf (writeAnswer (length area) a)
   pub area-after : area′ ≡ areaAfter (writeAnswer (length area) a) a area
 
--- what the host is told of a message: the answer's number and the reply's length
+-- what the host is told of a message: the answer's number and place, and the reply's length
 abbrev pub outcomeForC : Called → Outcome
-outcomeForC c = record { answer = c .answer; len = c .len }
+outcomeForC c = record { answer = c .answer; place = c .place; len = c .len }
 
 -- what a call on a piece gives, where the receiver after it lies in the host's memory
 abbrev pub receivedOf : Receiver → Handed → Received

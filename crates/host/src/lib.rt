@@ -25,10 +25,11 @@ ghost use Rattle.reader.specs.Plain.{plain};
 ghost use Rattle.host_box.specs.Called.{called, panelBehind};
 ghost use Rattle.host.specs.Calls.{WrittenForC, fieldsFromC, outcomeForC, receivedOf};
 
-// What the host is told of a message: the answer's number, and the reply's length.
+// What the host is told of a message: the answer's number and its place in the message, and the reply's length.
 #[repr(C)]
 pub struct Outcome {
     pub answer: u8,
+    pub place: u16,
     pub len: usize,
 }
 
@@ -62,6 +63,7 @@ pub extern "C" fn box_take(
     }
     Outcome {
         answer: t.answer,
+        place: t.place,
         len: t.len,
     }
 }

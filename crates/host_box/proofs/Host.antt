@@ -1,19 +1,27 @@
 -- What a host may count on at every way number: each is one of the four steps or no way at all, and each of these keeps it.
 use mathlib.Core.Path.{_≡_, refl, sym, ap, _∙_}
-use mathlib.Core.Bool.{true, false}
+use mathlib.Core.Bool.{Bool, true, false}
 use mathlib.Core.List.{List, []}
 use Prim.Native.Nat.{ℕ, _<_}
-use borrow.Author.Tests.{eqb-false}
+use native.Mathlib.Omega.{arith}
+use lib.Dec.{ltb}
+use lib.ListN.{length}
+use borrow.Author.Tests.{eqb-false, ltb-true, ltb-false}
 use Rattle.laws.specs.Lists.{listed}
+use Rattle.laws.proofs.Conditions.{choose}
+use Rattle.terms.specs.Answers.{answerPlace}
+use Rattle.terms.specs.declared.Answer.{Answer}
+use Rattle.terms.specs.declared.Answer.the-variants.{WrongLength, NotForUs}
+use Rattle.terms.proofs.Answers.{place-none}
 use Rattle.panels.specs.Records.{zeroPanel}
 use Rattle.panels.specs.Valid.{valid}
 use Rattle.panels.specs.declared.DisplayBox.{DisplayBox}
 use Rattle.steps.specs.Messages.{Message, rs232c, kjw, tcp, udp}
-use Rattle.steps.specs.Step.{messageAnswers, Outcome, Back, back, step}
+use Rattle.steps.specs.Step.{messageAnswers, toNobody, Outcome, Back, back, step}
 use Rattle.steps.proofs.Numbered as steps
 use Rattle.steps.proofs.Door.{Lends, by-rs232c, by-kjw, by-tcp}
 use Rattle.steps.proofs.Validity.{bad-kept}
-use Rattle.steps.proofs.Refusals.{refused-leaves, udp-quiet, early-quiet, none-sent, bad-quiet}
+use Rattle.steps.proofs.Refusals.{refused-leaves, udp-quiet, early-quiet, none-sent, too-small, bad-lent, bad-udp, bad-quiet}
 use Rattle.host_box.specs.Called.{Called, inNumbers, noWay, wayOf, calledBy, called, numbersOf, panelBehind}
 use Rattle.addresses.specs.declared.Line.the-variants.{Rs232c, Kjw, Tcp}
 use Rattle.ways_in.specs.Promise.{withArea, unanswered}
@@ -51,28 +59,48 @@ module _ (b : DisplayBox) (way link : ℕ) (m area : List ℕ) where
   pub numbered : listed messageAnswers (called b way link m area .answer) ≡ true
   numbered = at-every (λ (c : Called). listed messageAnswers (c .answer) ≡ true) (λ msg k. steps.numbered b msg) (steps.numbered b (udp m)) refl
 
-  -- the box and the area as they came, and no reply
+  -- document 02, §8, "other answers have place 0": those whose number is under 9
+  pub other-place : called b way link m area .answer < 9 → called b way link m area .place ≡ 0
+  other-place =
+      at-every (λ (c : Called). c .answer < 9 → c .place ≡ 0) (λ msg k. place-none (step b msg .answer)) (place-none (step b (udp m) .answer))
+      (λ h. refl)
+
+  -- the box and the area as they came, no place and no reply
   abbrev Untouched : Called → Type 0
-  Untouched c = (c .box ≡ b) × ((c .len ≡ 0) × (c .area ≡ area))
+  Untouched c = (c .box ≡ b) × ((c .place ≡ 0) × ((c .len ≡ 0) × (c .area ≡ area)))
 
-  untouched : (msg : Message) → Lends link area msg → step b msg .box ≡ b → step b msg .back ≡ back msg [] → Untouched (lent (step b msg))
-  untouched msg k p q = let e = q ∙ none-sent link area msg k in (p, (ap (λ (x : Back). x .len) e, ap (λ (x : Back). x .area) e))
+  untouched : (msg : Message) → Lends link area msg → step b msg .box ≡ b → answerPlace (step b msg .answer) ≡ 0 → step b msg .back ≡ back msg [] → Untouched (lent (step b msg))
+  untouched msg k p n q = let e = q ∙ none-sent link area msg k in (p, (n, (ap (λ (x : Back). x .len) e, ap (λ (x : Back). x .area) e)))
 
-  untouched-udp : step b (udp m) .box ≡ b → Untouched (inNumbers (unanswered (step b (udp m)) area))
-  untouched-udp p = (p, (ap (λ (x : Back). x .len) (udp-quiet b m), refl))
+  untouched-udp : step b (udp m) .box ≡ b → answerPlace (step b (udp m) .answer) ≡ 0 → Untouched (inNumbers (unanswered (step b (udp m)) area))
+  untouched-udp p n = (p, (n, (ap (λ (x : Back). x .len) (udp-quiet b m), refl)))
 
   -- "none" as the reply and "unchanged" stand beside the answers 1 to 4: box and area are as they came, whatever the number of the way
   pub early-untouched : (called b way link m area .answer ≡ 0 → ⊥) → called b way link m area .answer < 5 → Untouched (called b way link m area)
   early-untouched =
-      at-every (λ (c : Called). (c .answer ≡ 0 → ⊥) → c .answer < 5 → Untouched c) (λ msg k z h. untouched msg k (refused-leaves b msg z) (early-quiet b msg z h))
-      (λ z h. untouched-udp (refused-leaves b (udp m) z))
-      (λ z h. (refl, (refl, refl)))
+      at-every (λ (c : Called). (c .answer ≡ 0 → ⊥) → c .answer < 5 → Untouched c) (λ msg k z h. untouched msg k (refused-leaves b msg z) (place-none (step b msg .answer) (omega arith)) (early-quiet b msg z h))
+      (λ z h. untouched-udp (refused-leaves b (udp m) z) (place-none (step b (udp m) .answer) (omega arith)))
+      (λ z h. (refl, (refl, (refl, refl))))
+
+  -- a box that breaks the rules answers 1 to 4, which have no place
+  bad-place : (msg : Message) → Lends link area msg → valid b ≡ false → answerPlace (step b msg .answer) ≡ 0
+  bad-place msg k v = go (ltb (length area) 512) refl
+    where
+      go : (t : Bool) → ltb (length area) 512 ≡ t → answerPlace (step b msg .answer) ≡ 0
+      go true e = ap (λ (o : Outcome). answerPlace (o .answer)) (too-small b link area msg k (ltb-true (length area) 512 e))
+      go false e = ap (λ (o : Outcome). answerPlace (o .answer)) (bad-lent b link area msg v k (ltb-false (length area) 512 e))
+
+  bad-place-udp : valid b ≡ false → answerPlace (step b (udp m) .answer) ≡ 0
+  unfolding toNobody
+  bad-place-udp v =
+      ap (λ (o : Outcome). answerPlace (o .answer)) (bad-udp b m v)
+      ∙ choose (λ (a : Answer). answerPlace a ≡ 0) (ltb (length m) 13) WrongLength NotForUs (λ e. refl) (λ e. refl)
 
   -- "A box handed in that breaks these rules [..] is [..] given back as it came", bit for bit, whatever the way
   pub garbage : valid b ≡ false → Untouched (called b way link m area)
   garbage v =
-      at-every Untouched (λ msg k. untouched msg k (bad-kept b msg v) (bad-quiet b msg v))
-      (untouched-udp (bad-kept b (udp m) v)) (refl, (refl, refl))
+      at-every Untouched (λ msg k. untouched msg k (bad-kept b msg v) (bad-place msg k v) (bad-quiet b msg v))
+      (untouched-udp (bad-kept b (udp m) v) (bad-place-udp v)) (refl, (refl, (refl, refl)))
 
 -- and it shows no panel
 pub garbage-panel : (b : DisplayBox) (link : ℕ) → valid b ≡ false → panelBehind b link ≡ zeroPanel

@@ -5,7 +5,7 @@ use mathlib.Core.List.{List, [], _∷_}
 use Prim.Native.Nat.{ℕ, _<_}
 use lib.ListN.{length}
 use Rattle.laws.proofs.Lists.{same-self}
-use Rattle.terms.specs.Answers.{numberOf}
+use Rattle.terms.specs.Answers.{numberOf, answerPlace}
 use Rattle.panels.specs.declared.DisplayBox.{DisplayBox}
 use Rattle.configure.specs.Configure.{configured}
 use Rattle.steps.specs.Messages.{Message, rs232c, kjw, tcp, udp, names}
@@ -41,10 +41,10 @@ life-is-run b (k ∷ ks) = life-is-run (afterCall b k) ks ∙ one-call b (messag
 
 -- what a host is told of what a message got
 abbrev told : Message → Got → CallGot
-told (rs232c l m area) g = with-area (numberOf (g .answer)) (g .back .len) (g .back .area)
-told (kjw l m area) g = with-area (numberOf (g .answer)) (g .back .len) (g .back .area)
-told (tcp l m area) g = with-area (numberOf (g .answer)) (g .back .len) (g .back .area)
-told (udp m) g = without-area (numberOf (g .answer)) (g .back .len) true
+told (rs232c l m area) g = with-area (numberOf (g .answer)) (answerPlace (g .answer)) (g .back .len) (g .back .area)
+told (kjw l m area) g = with-area (numberOf (g .answer)) (answerPlace (g .answer)) (g .back .len) (g .back .area)
+told (tcp l m area) g = with-area (numberOf (g .answer)) (answerPlace (g .answer)) (g .back .len) (g .back .area)
+told (udp m) g = without-area (numberOf (g .answer)) (answerPlace (g .answer)) (g .back .len) true
 
 abbrev toldAll : List Message → List Got → List CallGot
 toldAll [] gs = []
@@ -72,7 +72,7 @@ module _ (i : ℕ) where
   got-by-entry b k ms ks (Through (By Tcp)) r = in-front b (tcp (k .link) (k .message) (k .area)) ms _ _ refl (r (step b (tcp (k .link) (k .message) (k .area)) .box))
   got-by-entry b k ms ks (Through Udp) r =
       let o = step b (udp (k .message)) in
-      in-front b (udp (k .message)) ms _ _ (ap (without-area (numberOf (o .answer)) (o .back .len)) (same-self (k .area))) (r (o .box))
+      in-front b (udp (k .message)) ms _ _ (ap (without-area (numberOf (o .answer)) (answerPlace (o .answer)) (o .back .len)) (same-self (k .area))) (r (o .box))
   got-by-entry b k ms ks Nowhere r = r b
 
   -- what a host's calls got is what the messages of the run got
@@ -83,8 +83,8 @@ module _ (i : ℕ) where
 
 -- ---- demand 3 of a host's box
 
--- two lives with the same messages to a panel leave it the same record, and each call for it got the same: answer, length, and every byte of the
--- area, or by UDP an area as it came
+-- two lives with the same messages to a panel leave it the same record, and each call for it got the same: answer, place, length, and every byte
+-- of the area, or by UDP an area as it came
 pub lives-alone : (b : DisplayBox) (i : ℕ) (ks ls : List Call) → i < length (b .panels)
     → kept i (names b) (messagesOf ks) ≡ kept i (names b) (messagesOf ls)
     → (panelAt i (life b ks) ≡ panelAt i (life b ls)) × (gots i b ks ≡ gots i b ls)

@@ -3,7 +3,7 @@ use Prim.Native.Nat.{ℕ, _-_}
 use mathlib.Core.Bool.{cond, _&&_}
 use mathlib.Core.List.{List}
 use lib.Dec.{eqb, leb}
-use Rattle.terms.specs.Answers.{numberOf}
+use Rattle.terms.specs.Answers.{numberOf, answerPlace}
 use Rattle.terms.specs.declared.Answer.the-variants.{NoSuchPanel}
 use Rattle.panels.specs.Records.{zeroPanel}
 use Rattle.panels.specs.Valid.{valid}
@@ -23,19 +23,20 @@ use Rattle.host_box.specs.declared.Entry.the-variants.{Through, Nowhere}
 abbrev pub madeOf : Configured → Made
 madeOf c = record { made = c .made; answer = numberOf (c .answer) }
 
--- what a call did: the box after it, the answer's number, the reply's length, and the area after it
+-- what a call did: the box after it, the answer's number and place, the reply's length, and the area after it
 pub record Called : Type 0 where
   pub box : DisplayBox
   pub answer : ℕ
+  pub place : ℕ
   pub len : ℕ
   pub area : List ℕ
 
 abbrev pub inNumbers : Came → Called
-inNumbers c = record { box = c .box; answer = numberOf (c .answer); len = c .len; area = c .area }
+inNumbers c = record { box = c .box; answer = numberOf (c .answer); place = answerPlace (c .answer); len = c .len; area = c .area }
 
 -- a way that does not exist leads to no panel
 abbrev pub noWay : DisplayBox → List ℕ → Called
-noWay b area = record { box = b; answer = numberOf NoSuchPanel; len = 0; area = area }
+noWay b area = record { box = b; answer = numberOf NoSuchPanel; place = answerPlace NoSuchPanel; len = 0; area = area }
 
 -- "RS-232C port of panel p, KJW link of panel p, SDCP by TCP on the link of panel p, or SDCP by UDP": 1, 2, 3, 4
 unfoldable pub wayOf : ℕ → Entry
@@ -55,7 +56,7 @@ called b way link m area = calledBy (wayOf way) b link m area
 
 -- the number says whether it was done
 abbrev pub numbersOf : Called → Outcome
-numbersOf c = record { after = c .box; answer = c .answer; len = c .len; done = eqb (c .answer) 0 }
+numbersOf c = record { after = c .box; answer = c .answer; place = c .place; len = c .len; done = eqb (c .answer) 0 }
 
 -- the panel behind a link: "numbered from 1 in the order given; that is also the link number"; all zeros where there is none,
 -- and a box that breaks the rules is "a box of no panels"

@@ -49,17 +49,17 @@ isForBy Nowhere i ns k = false
 abbrev pub isFor : ℕ → List Name → Call → Bool
 isFor i ns k = isForBy (wayOf (k .way)) i ns k
 
--- what a call got: the answer's number, the reply's length, and the area after it. "All but UDP come with a lent reply area": what a host hands
+-- what a call got: the answer's number and place, the reply's length, and the area after it. "All but UDP come with a lent reply area": what a host hands
 -- in there is no part of the message, and may be another in a life that is the same to the panels. So of that area it is said whether it is as it
 -- came
 pub data CallGot : Type 0 where
-  with-area : ℕ → ℕ → List ℕ → CallGot
-  without-area : ℕ → ℕ → Bool → CallGot
+  with-area : (answer place len : ℕ) → List ℕ → CallGot
+  without-area : (answer place len : ℕ) → Bool → CallGot
 
 abbrev pub gotThrough : Entry → List ℕ → Called → CallGot
-gotThrough (Through (By line)) area c = with-area (c .answer) (c .len) (c .area)
-gotThrough (Through Udp) area c = without-area (c .answer) (c .len) (same (c .area) area)
-gotThrough Nowhere area c = without-area (c .answer) (c .len) (same (c .area) area)
+gotThrough (Through (By line)) area c = with-area (c .answer) (c .place) (c .len) (c .area)
+gotThrough (Through Udp) area c = without-area (c .answer) (c .place) (c .len) (same (c .area) area)
+gotThrough Nowhere area c = without-area (c .answer) (c .place) (c .len) (same (c .area) area)
 
 abbrev pub gotCall : DisplayBox → Call → CallGot
 gotCall b k = gotThrough (wayOf (k .way)) (k .area) (called b (k .way) (k .link) (k .message) (k .area))

@@ -7,17 +7,20 @@ use panels::Panel;
 use panels::zero_panel;
 use terms::Answer;
 use terms::answer_number;
+use terms::answer_place;
 use ways_in::Way;
 use ways_in::take;
 ghost use mathlib.Core.Path.{_≡_};
-ghost use Rattle.terms.specs.Answers.{numberOf};
+ghost use lib.Dec.{eqb};
+ghost use Rattle.terms.specs.Answers.{numberOf, answerPlace};
 ghost use Rattle.configure.specs.Configure.{configured};
 ghost use Rattle.host_box.specs.Called.{madeOf, wayOf, called, numbersOf, panelBehind};
 
-// What a message did: the box after it, the answer's number, the reply's length, and whether the number is 0.
+// What a message did: the box after it, the answer's number and its place in the message, the reply's length, and whether the number is 0.
 pub struct Outcome {
     pub after: DisplayBox,
     pub answer: u8,
+    pub place: u16,
     pub len: usize,
     pub done: bool,
 }
@@ -34,15 +37,26 @@ pub enum Entry {
     Nowhere,
 }
 
-// An outcome with its answer as a number.
-fn in_numbers(after: DisplayBox, answer: Answer, len: usize, done: bool) -> Outcome
-    ensures { λ r. ⌜ r ≡ record { after = after; answer = numberOf answer; len = len; done = done } ⌝ }
+// An answer's number, and its place in the message.
+struct AnswerNumbers {
+    number: u8,
+    place: u16,
+}
+
+// What was done has 0 for both, and its answer is not asked: so its box goes on without a copy.
+fn answer_numbers(answer: Answer, done: bool) -> AnswerNumbers
+    requires { ⌜ done ≡ eqb (numberOf answer) 0 ⌝ }
+    ensures { λ r. ⌜ r ≡ record { number = numberOf answer; place = answerPlace answer } ⌝ }
 {
-    Outcome {
-        after,
-        answer: answer_number(answer),
-        len,
-        done,
+    if done {
+        return AnswerNumbers {
+            number: 0,
+            place: 0,
+        };
+    }
+    AnswerNumbers {
+        number: answer_number(answer),
+        place: answer_place(answer),
     }
 }
 
@@ -86,13 +100,27 @@ pub fn take_message(b: DisplayBox, way: u8, link: usize, m: &[u8], area: &mut [u
     match way_of(way) {
         Entry::Through(w) => {
             let t = take(b, w, link, m, area);
-            let after = t.after;
             let answer = t.answer;
-            let len = t.len;
-            let done = t.done;
-            in_numbers(after, answer, len, done)
+            let n = answer_numbers(answer, t.done);
+            let after = t.after;
+            Outcome {
+                after,
+                answer: n.number,
+                place: n.place,
+                len: t.len,
+                done: t.done,
+            }
         }
-        Entry::Nowhere => in_numbers(b, Answer::NoSuchPanel, 0, false),
+        Entry::Nowhere => {
+            let n = answer_numbers(Answer::NoSuchPanel, false);
+            Outcome {
+                after: b,
+                answer: n.number,
+                place: n.place,
+                len: 0,
+                done: false,
+            }
+        }
     }
 }
 

@@ -2,7 +2,7 @@
 use mathlib.Core.Path.{_≡_, refl, sym}
 use mathlib.Core.Bool.{Bool, true, false, cond, not, _||_, or-true, and-false}
 use mathlib.Core.List.{List, [], _∷_}
-use Prim.Native.Nat.{ℕ, _+_, _<_, _≤_}
+use Prim.Native.Nat.{ℕ, _<_, _≤_}
 use native.Mathlib.Omega.{arith}
 use lib.ListN.{length, getD}
 use lib.Dec.{eqb, ltb}
@@ -10,23 +10,26 @@ use borrow.Author.Tests.{lt-ltb, le-ltb, ne-eqb}
 use Rattle.laws.specs.Lists.{listed}
 use Rattle.laws.proofs.Conditions.{false-true}
 use Rattle.terms.specs.Answers.{numberOf}
-use Rattle.terms.specs.declared.Answer.the-variants.{WrongLength, NotForUs, EnvelopeWrong}
+use Rattle.terms.specs.declared.Answer.the-variants.{WrongLength, NotForUs, PartWrong}
+use Rattle.terms.specs.declared.Part.{Part}
+use Rattle.terms.specs.declared.Part.the-variants.{Count}
 use Rattle.turns.specs.Turns.{taken}
 use Rattle.turns.proofs.Turns.{refusal-leaves as leaves}
 use Rattle.panels.specs.Records.{connectors, presets}
 use Rattle.panels.specs.declared.WRecord.{WRecord}
 use Rattle.rs232c_asks.specs.Commands.{connectorMarked, presetMarked, connectorOf, presetOf, actOf, connectorGood, presetGood, configGood, selectGood}
-use Rattle.rs232c_asks.specs.Asks.{countOf, destinationOf, sourceOf, first, second, isForeign, isBroken, configCommand, selectCommand, commandOf, heardOf, valuesOf}
+use Rattle.rs232c_asks.specs.Asks.{countOf, destinationOf, sourceOf, first, second, isForeign, configCommand, selectCommand, commandOf, heardOf, valuesOf}
 use Rattle.rs232c_tells.specs.Texts.{bytesOf}
 use Rattle.rs232c.specs.Replies.{turned, turnOf}
 use Rattle.rs232c_asks.specs.declared.Heard.{Heard}
 use Rattle.rs232c_asks.specs.declared.Heard.the-variants.{Refused, Broken, NotUnderstood, Understood}
 use Rattle.rs232c_tells.specs.declared.Reply.the-variants.{Nak}
+use Rattle.rs232c_asks.proofs.Envelopes.{count-told}
 
 turn-leaves : (h : Heard) (vs : List ℕ) (w : WRecord) → (numberOf (turned h vs w .answer) ≡ 0 → ⊥) → turned h vs w .after ≡ w
 unfolding turned
 turn-leaves (Refused a) vs w n = refl
-turn-leaves (Broken s) vs w n = refl
+turn-leaves (Broken s p) vs w n = refl
 turn-leaves (NotUnderstood s) vs w n = refl
 turn-leaves (Understood s o) vs w n = absurd (n refl)
 
@@ -35,16 +38,18 @@ pub refusal-leaves : (room : ℕ) (m : List ℕ) (w : WRecord) → (numberOf (ta
 refusal-leaves room m w = leaves room (turnOf m) w (turn-leaves (heardOf m) (valuesOf m) w)
 
 -- "So counts 0, 1 and 2 never pass."
-pub small-counts-broken : (m : List ℕ) → 6 ≤ length m → isForeign m ≡ false → countOf m < 3 → heardOf m ≡ Broken (sourceOf m)
-unfolding heardOf isBroken
-small-counts-broken m h f k =
-    let n : countOf m + 3 ≡ length m → ⊥ = λ e. omega arith in
-    rw (le-ltb (length m) 6 h, f, ne-eqb (countOf m + 3) (length m) n)
+pub small-counts-broken : (m : List ℕ) → 6 ≤ length m → isForeign m ≡ false → countOf m < 3 → heardOf m ≡ Broken (sourceOf m) Count
+small-counts-broken m h f k = count-told m h f (λ e. omega arith)
 
--- the same at the door, with room for a reply: the record is left, the answer is 5 and NAK goes to the source
-pub small-counts-told : (room : ℕ) (m : List ℕ) (w : WRecord) → 512 ≤ room → 6 ≤ length m → isForeign m ≡ false → countOf m < 3 → taken room (turnOf m) w ≡ record { after = w; answer = EnvelopeWrong; reply = bytesOf (Nak (sourceOf m)) }
+-- the same at the door, with room for a reply: the record is left, the answer is 13 and NAK goes to the source
+pub small-counts-told : (room : ℕ) (m : List ℕ) (w : WRecord) → 512 ≤ room → 6 ≤ length m → isForeign m ≡ false → countOf m < 3 → taken room (turnOf m) w ≡ record { after = w; answer = PartWrong Count; reply = bytesOf (Nak (sourceOf m)) }
 unfolding taken turned
 small-counts-told room m w r h f k = rw (le-ltb room 512 r, small-counts-broken m h f k)
+
+-- document 02, §8, "The bytes sent to the console stay as they were": NAK to the source, whatever the part
+pub broken-nak : (s : ℕ) (p : Part) (vs : List ℕ) (w : WRecord) → turned (Broken s p) vs w .reply ≡ bytesOf (Nak s)
+unfolding turned
+broken-nak s p vs w = refl
 
 -- "Under 6 bytes: 3."
 pub short-refused : (m : List ℕ) → length m < 6 → heardOf m ≡ Refused WrongLength

@@ -25,7 +25,7 @@ inputs-move code w i c = record { settings-stay = refl; shifts-stay = refl; spar
 turned-stays : (code : ℕ) (bytes : List ℕ) (h : Heard) (vs : List ℕ) (w : WRecord) → Known code bytes h → Stays code w (turned h vs w .after)
 unfolding turned carried
 turned-stays code bytes (Refused a) vs w k = unmoved code w
-turned-stays code bytes (Broken s) vs w k = unmoved code w
+turned-stays code bytes (Broken s p) vs w k = unmoved code w
 turned-stays code bytes (NotUnderstood s) vs w k = unmoved code w
 turned-stays code bytes (Understood s (Config marks byte)) vs w k = inputs-move code w (configuredBy marks byte (w .inputs)) (λ n n′. n (k .0))
 turned-stays code bytes (Understood s (Select byte)) vs w k = inputs-move code w (selectedBy byte (w .inputs)) (λ n n′. n′ (k .0))

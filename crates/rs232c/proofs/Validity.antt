@@ -125,7 +125,7 @@ carried-ok code bytes s Remote vs w k r = r
 turned-ok : (code : ℕ) (bytes : List ℕ) (h : Heard) (vs : List ℕ) (w : WRecord) → Known code bytes h → InRange w → InRange (turned h vs w .after)
 unfolding turned
 turned-ok code bytes (Refused a) vs w k r = r
-turned-ok code bytes (Broken s) vs w k r = r
+turned-ok code bytes (Broken s p) vs w k r = r
 turned-ok code bytes (NotUnderstood s) vs w k r = r
 turned-ok code bytes (Understood s o) vs w k r = carried-ok code bytes s o vs w k r
 

@@ -72,11 +72,11 @@ pub fn take_frame(w: WRecord, m: &[u8], area: &mut [u8]) -> Outcome
             answer,
             len: 0,
         },
-        Heard::Broken(source) => {
+        Heard::Broken(source, part) => {
             let len = send(Reply::Nak(source), area);
             Outcome {
                 after: w,
-                answer: Answer::EnvelopeWrong,
+                answer: Answer::PartWrong(part),
                 len,
             }
         }

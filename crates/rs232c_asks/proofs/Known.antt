@@ -5,23 +5,24 @@ use mathlib.Core.List.{List, [], _∷_}
 use Prim.Native.Nat.{ℕ, zero, suc, _+_, _*_, _%_}
 use native.Mathlib.Omega.{arith}
 use lib.Count.{ones}
-use lib.Dec.{eqb, ltb}
+use lib.Dec.{eqb}
 use lib.ListN.{length, drop, length-drop}
 use borrow.Author.Tests.{eqb-true}
 use Rattle.laws.specs.Lists.{listed}
 use Rattle.laws.proofs.Conditions.{and-first, and-second, choose}
 use Rattle.terms.specs.Answers.{numberOf}
-use Rattle.rs232c_asks.specs.Asks.{sourceOf, codeOf, dataOf, isForeign, isBroken, first, second, configCommand, selectCommand, levelsCommand, senseCommand, remoteCommand, commandOf, heardOf, valuesIn, valuesOf}
+use Rattle.rs232c_asks.specs.Asks.{sourceOf, codeOf, dataOf, first, second, configCommand, selectCommand, levelsCommand, senseCommand, remoteCommand, commandOf, heardOf, valuesIn, valuesOf}
 use Rattle.rs232c_asks.specs.Commands.{configGood, selectGood}
 use Rattle.rs232c_asks.specs.declared.Order.{Order}
 use Rattle.rs232c_asks.specs.declared.Order.the-variants.{Config, Select, Levels, Sense, Remote}
 use Rattle.rs232c_asks.specs.declared.Heard.{Heard}
 use Rattle.rs232c_asks.specs.declared.Heard.the-variants.{Refused, Broken, NotUnderstood, Understood}
+use Rattle.rs232c_asks.proofs.Envelopes.{by-rungs}
 
 -- by the code and the data bytes: a refusal is 3 or 4, and "any other code or number of data bytes: 6"
 abbrev pub Known : ℕ → List ℕ → Heard → Type 0
 Known code bytes (Refused a) = listed (3 ∷ 4 ∷ []) (numberOf a) ≡ true
-Known code bytes (Broken s) = Unit {0}
+Known code bytes (Broken s p) = Unit {0}
 Known code bytes (NotUnderstood s) = Unit {0}
 Known code bytes (Understood s (Config marks byte)) = (code ≡ 0x21) × (bytes ≡ marks ∷ byte ∷ []) × (configGood marks byte ≡ true)
 Known code bytes (Understood s (Select byte)) = (code ≡ 0x22) × (bytes ≡ byte ∷ []) × (selectGood byte ≡ true)
@@ -82,11 +83,7 @@ module _ (source code : ℕ) (bytes : List ℕ) where
       (λ e. choose (Known code bytes) (eqb code 0x6e) _ _ (λ e. remote-known (eqb-true code 0x6e e)) (λ e. tt)))))
 
 pub heard-known : (m : List ℕ) → Known (codeOf m) (dataOf m) (heardOf m)
-unfolding heardOf
-heard-known m =
-    choose (Known (codeOf m) (dataOf m)) (ltb (length m) 6) _ _ (λ e. refl)
-    (λ e. choose (Known (codeOf m) (dataOf m)) (isForeign m) _ _ (λ f. refl)
-    (λ f. choose (Known (codeOf m) (dataOf m)) (isBroken m) _ _ (λ g. tt) (λ g. command-known (sourceOf m) (codeOf m) (dataOf m))))
+heard-known m = by-rungs (Known (codeOf m) (dataOf m)) m refl refl (λ p w. tt) (command-known (sourceOf m) (codeOf m) (dataOf m))
 
 -- the same of a message that was understood
 pub understood-known : (m : List ℕ) (s : ℕ) (o : Order) → heardOf m ≡ Understood s o → Known (codeOf m) (dataOf m) (Understood s o)

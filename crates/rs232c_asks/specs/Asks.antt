@@ -1,4 +1,4 @@
--- Document 01, "RS-232C (002, 004)": the frame, and what it asks.
+-- Document 01, "RS-232C (002, 004)", and document 02, §8: the frame, and what it asks.
 use Prim.Native.Nat.{ℕ, _+_, _-_, _*_, _%_}
 use mathlib.Core.Bool.{Bool, not, cond, _&&_, _||_}
 use mathlib.Core.List.{List, [], _∷_}
@@ -8,6 +8,9 @@ use lib.ListN.{length, getD, drop}
 use Rattle.laws.specs.Bytes.{part}
 use Rattle.sums.specs.Sums.{sumsToZero}
 use Rattle.terms.specs.declared.Answer.the-variants.{WrongLength, NotForUs}
+use Rattle.terms.specs.declared.Part.the-variants.{Count, Checksum}
+use Rattle.terms.specs.declared.Envelope.{Envelope}
+use Rattle.terms.specs.declared.Envelope.the-variants.{Good, Wrong}
 use Rattle.rs232c_asks.specs.Commands.{configGood, selectGood}
 use Rattle.rs232c_asks.specs.declared.Order.{Order}
 use Rattle.rs232c_asks.specs.declared.Order.the-variants.{Config, Select, Levels, Sense, Remote}
@@ -35,9 +38,25 @@ dataOf m = part 5 (length m - 6) m
 unfoldable pub isForeign : List ℕ → Bool
 isForeign m = not (eqb (getD m 0 0) 2) || not (eqb (destinationOf m) 1) || ltb (sourceOf m) 0x41 || ltb 0x7f (sourceOf m)
 
--- "Byte count not equal to length less 3: 5. The sum from the byte count to the checksum, both included, is not 0 modulo 256: 5."
-unfoldable pub isBroken : List ℕ → Bool
-isBroken m = not (eqb (countOf m + 3) (length m)) || not (sumsToZero (drop 1 m))
+-- "Byte count not equal to length less 3"
+abbrev pub countWrong : List ℕ → Bool
+countWrong m = not (eqb (countOf m + 3) (length m))
+
+-- "The sum from the byte count to the checksum, both included, is not 0 modulo 256"
+abbrev pub sumWrong : List ℕ → Bool
+sumWrong m = not (sumsToZero (drop 1 m))
+
+-- Document 02, §8: "RS-232C byte count, RS-232C checksum [..]; in that order within each form". The checksum is the last byte.
+unfoldable pub envelopeOf : List ℕ → Envelope
+envelopeOf m =
+    cond (countWrong m) (Wrong Count)
+    (cond (sumWrong m) (Wrong (Checksum (length m - 1)))
+    Good)
+
+-- "at the old place of 5": what lies in a good envelope is heard, and of any other the part that is wrong
+abbrev pub unlessWrong : ℕ → Envelope → Heard → Heard
+unlessWrong source Good h = h
+unlessWrong source (Wrong p) h = Broken source p
 
 -- ---- the commands, each by its data bytes
 
@@ -83,13 +102,12 @@ commandOf source code bytes =
     (cond (eqb code 0x6e) (remoteCommand source bytes)
     (NotUnderstood source)))))
 
--- what a message asks: "Under 6 bytes: 3", then 4, then 5, then its command
+-- what a message asks: "Under 6 bytes: 3", then 4, then its envelope, then its command
 unfoldable pub heardOf : List ℕ → Heard
 heardOf m =
     cond (ltb (length m) 6) (Refused WrongLength)
     (cond (isForeign m) (Refused NotForUs)
-    (cond (isBroken m) (Broken (sourceOf m))
-    (commandOf (sourceOf m) (codeOf m) (dataOf m))))
+    (unlessWrong (sourceOf m) (envelopeOf m) (commandOf (sourceOf m) (codeOf m) (dataOf m))))
 
 -- ---- the values of a 40h: "two bytes each, low first", behind the mask; a byte that is left over is no value
 abbrev pub valuesIn : List ℕ → List ℕ

@@ -1,16 +1,18 @@
-// RS-232C: what a frame asks, whatever the panel (document 01, "RS-232C (002, 004)").
+// RS-232C: what a frame asks, whatever the panel (document 01, "RS-232C (002, 004)"; document 02, §8).
 use octets::byte_at;
 use octets::is_listed;
 use panels::CONNECTORS;
 use panels::PRESETS;
 use sums::sums_to_zero;
 use terms::Answer;
+use terms::Envelope;
+use terms::Part;
 ghost use mathlib.Core.Path.{_≡_};
 ghost use Prim.Native.Nat.{_≤_};
 ghost use lib.ListN.{length};
 ghost use Rattle.laws.specs.Lists.{listed};
 ghost use Rattle.panels.specs.Records.{connectors, presets};
-ghost use Rattle.rs232c_asks.specs.Asks.{isForeign, isBroken, configCommand, selectCommand, levelsCommand, senseCommand, remoteCommand, commandOf, heardOf};
+ghost use Rattle.rs232c_asks.specs.Asks.{isForeign, envelopeOf, configCommand, selectCommand, levelsCommand, senseCommand, remoteCommand, commandOf, heardOf};
 ghost use Rattle.rs232c_asks.specs.Commands.{connectorGood, presetGood, configGood, selectGood};
 use octets::ones_of;
 
@@ -32,8 +34,8 @@ pub enum Order {
 pub enum Heard {
     // 3 and 4: no reply
     Refused(Answer),
-    // 5
-    Broken(u8),
+    // 13 and 14
+    Broken(u8, Part),
     // 6
     NotUnderstood(u8),
     Understood(u8, Order),
@@ -56,20 +58,21 @@ fn is_foreign(m: &[u8]) -> bool
     0x7F < source
 }
 
-// Byte count and checksum.
-fn is_broken(m: &[u8]) -> bool
+// Byte count and checksum, in this order. A frame whose byte count is right has at most 258 bytes.
+fn envelope_of(m: &[u8]) -> Envelope
     requires { ⌜ 6 ≤ length (now m) ⌝ }
-    ensures { λ r. ⌜ r ≡ isBroken (now (m .entry)) ⌝ }
+    ensures { λ r. ⌜ r ≡ envelopeOf (now (m .entry)) ⌝ }
 {
     let count = byte_at(m, 1) as usize;
     if count + 3 != m.len() {
-        return true;
+        return Envelope::Wrong(Part::Count);
     }
     let summed = &m[1..];
     if sums_to_zero(summed) {
-        return false;
+        return Envelope::Good;
     }
-    true
+    let last = (m.len() - 1) as u16;
+    Envelope::Wrong(Part::Checksum(last))
 }
 
 fn is_connector(code: u8) -> bool
@@ -226,8 +229,8 @@ pub fn hear(m: &[u8]) -> Heard
         return Heard::Refused(Answer::NotForUs);
     }
     let source = byte_at(m, 3);
-    if is_broken(m) {
-        return Heard::Broken(source);
+    if let Envelope::Wrong(part) = envelope_of(m) {
+        return Heard::Broken(source, part);
     }
     let bytes = &m[5..m.len() - 1];
     command_of(source, byte_at(m, 4), bytes)

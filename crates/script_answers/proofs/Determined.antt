@@ -2,12 +2,10 @@
 use mathlib.Core.Path.{_≡_, sym, _∙_}
 use mathlib.Core.List.{List}
 use Prim.Native.Nat.{ℕ}
-use Rattle.terms.specs.Answers.{numberOf}
 use Rattle.terms.specs.declared.Answer.{Answer}
 use Rattle.panels.specs.declared.DisplayBox.{DisplayBox}
-use Rattle.script_text.specs.Texts.{numberText}
 use Rattle.script_text.proofs.Puts.{puts-one}
-use Rattle.script_answers.specs.Answers.{Effect, Answers, writes, replied}
+use Rattle.script_answers.specs.Answers.{Effect, Answers, writes, answerText, replied}
 use Rattle.script_answers.specs.Endings.{Ends}
 use Rattle.script_answers.specs.declared.Answered.{Answered}
 
@@ -36,8 +34,8 @@ module _ (b : DisplayBox) (area : List ℕ) (r r′ : Answered) (x x′ : List �
   pub say-one : (text : List ℕ) → Answers (writes b text) r area x → Answers (writes b text) r′ area x′ → Agree r r′ x x′
   say-one text = answers-one (writes b text) area r r′ x x′
 
-  pub say-answer-one : (word : List ℕ) (a : Answer) → Answers (writes b (numberText word (numberOf a))) r area x → Answers (writes b (numberText word (numberOf a))) r′ area x′ → Agree r r′ x x′
-  say-answer-one word a = answers-one (writes b (numberText word (numberOf a))) area r r′ x x′
+  pub say-answer-one : (a : Answer) → Answers (writes b (answerText a)) r area x → Answers (writes b (answerText a)) r′ area x′ → Agree r r′ x x′
+  say-answer-one a = answers-one (writes b (answerText a)) area r r′ x x′
 
   pub say-reply-one : (a : Answer) (len : ℕ) (lent : List ℕ) → Answers (writes b (replied a len lent)) r area x → Answers (writes b (replied a len lent)) r′ area x′ → Agree r r′ x x′
   say-reply-one a len lent = answers-one (writes b (replied a len lent)) area r r′ x x′

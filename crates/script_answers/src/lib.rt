@@ -1,15 +1,14 @@
 // What a line answers: the box after it, and a text of its own (docs/SCRIPTS.md).
 use panels::DisplayBox;
 use script_text::put;
-use script_text::put_number_text;
+use script_text::put_placed;
 use script_text::put_reply;
 use terms::Answer;
 use terms::answer_number;
+use terms::answer_place;
 ghost use mathlib.Core.Path.{_≡_};
 ghost use lib.ListN.{length, take};
-ghost use Rattle.terms.specs.Answers.{numberOf};
-ghost use Rattle.script_text.specs.Texts.{numberText};
-ghost use Rattle.script_answers.specs.Answers.{Answers, writes, replied};
+ghost use Rattle.script_answers.specs.Answers.{Answers, writes, answerText, replied};
 ghost use Rattle.script_answers.specs.Endings.{Ends};
 
 // What a line did: the box after it, and the length of its text.
@@ -34,11 +33,11 @@ pub fn say(b: DisplayBox, out: &mut [u8], text: &[u8]) -> Answered
     ended(b, out, at)
 }
 
-// An answer's number behind a word.
-pub fn say_answer(b: DisplayBox, out: &mut [u8], word: &[u8], answer: Answer) -> Answered
-    ensures { λ r. ⌜ Answers (writes b (numberText (now (word .entry)) (numberOf answer))) r (now (out .entry)) (now (out .exit)) ⌝ }
+// An answer alone: its number, and its place.
+pub fn say_answer(b: DisplayBox, out: &mut [u8], answer: Answer) -> Answered
+    ensures { λ r. ⌜ Answers (writes b (answerText answer)) r (now (out .entry)) (now (out .exit)) ⌝ }
 {
-    let at = put_number_text(out, 0, word, answer_number(answer) as u32);
+    let at = put_placed(out, 0, answer_number(answer), answer_place(answer));
     ended(b, out, at)
 }
 
@@ -57,6 +56,7 @@ pub fn say_reply(b: DisplayBox, answer: Answer, len: usize, area: &[u8], out: &m
     ensures { λ r. ⌜ Answers (writes b (replied answer len (now (area .entry)))) r (now (out .entry)) (now (out .exit)) ⌝ }
 {
     let n = front_length(len, area);
-    let at = put_reply(out, 0, answer_number(answer), &area[..n], &area[n..]);
+    let number = answer_number(answer);
+    let at = put_reply(out, 0, number, answer_place(answer), &area[..n], &area[n..]);
     ended(b, out, at)
 }

@@ -30,7 +30,7 @@ pub fn answer_advert(b: DisplayBox, line: &[u8], out: &mut [u8]) -> Answered
     let r = read_advert(&bytes[..n]);
     let answer = r.answer;
     if answer_number(answer) != 0 {
-        return say_answer(b, out, b"answer ", answer);
+        return say_answer(b, out, answer);
     }
     let fields = r.fields;
     let at = put_advert(out, 0, fields);

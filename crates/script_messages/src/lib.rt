@@ -56,5 +56,5 @@ pub fn answer_udp(b: DisplayBox, line: &[u8], out: &mut [u8]) -> Answered
     let t = take(b, Way::Udp, 0, &bytes[..n], &mut unused);
     let after = t.after;
     let answer = t.answer;
-    say_answer(after, out, b"answer ", answer)
+    say_answer(after, out, answer)
 }

@@ -4,11 +4,12 @@ use panels::DisplayBox;
 use script_answers::Answered;
 use script_answers::ended;
 use script_answers::say;
-use script_answers::say_answer;
 use script_boxes::configuration_in;
 use script_show::put_panel;
+use script_text::put_number_text;
 use script_words::ANY;
 use script_words::number_at;
+use terms::answer_number;
 ghost use mathlib.Core.Path.{_≡_};
 ghost use Rattle.configure.specs.Configure.{configured};
 ghost use Rattle.script_words.specs.Words.{numberAt};
@@ -24,7 +25,8 @@ pub fn answer_box(line: &[u8], out: &mut [u8]) -> Answered
     let c = configure(&bytes[..n]);
     let made = c.made;
     let answer = c.answer;
-    say_answer(made, out, b"box ", answer)
+    let at = put_number_text(out, 0, b"box ", answer_number(answer) as u32);
+    ended(made, out, at)
 }
 
 // The box has a panel of that number.

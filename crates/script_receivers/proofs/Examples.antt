@@ -16,14 +16,14 @@ use Rattle.steps.specs.Messages.{names}
 use Rattle.panels.specs.Valid.{valid}
 use Rattle.script_hex.specs.Hex.{isHexDigit, hexValue, isHex}
 use Rattle.script_words.specs.Words.{wordsIn, numberAt, bytesIn, bytesAt}
-use Rattle.script_text.specs.Texts.{glyph, pairs, hexText, numberText, bytesText, spoiledBy, replyText}
+use Rattle.script_text.specs.Texts.{glyph, pairs, hexText, numberText, bytesText, spoiledBy, atText, placedText, replyText}
 use Rattle.script_answers.specs.Answers.{writes, replied}
 use Rattle.script_messages.specs.Messages.{stepped}
 use Rattle.script_receivers.specs.Receivers.{packeted, packetsText, LinkEffect, pieced, piecedBy}
 
 -- what a line does, each definition opened
 opened : String → LinkEffect
-unfolding number wordsIn numberAt upTo isNumeral leadsZero isDigit decimal bytesAt isHex isHexDigit bytesIn hexValue agrees noise sizeOf whole holding heldIn handed given fedBy names valid door step glyph pairs hexText numberText bytesText spoiledBy replyText plain width widthFrom inDigits writes replied stepped packeted packetsText pieced piecedBy
+unfolding number wordsIn numberAt upTo isNumeral leadsZero isDigit decimal bytesAt isHex isHexDigit bytesIn hexValue agrees noise sizeOf whole holding heldIn handed given fedBy names valid door step glyph pairs hexText numberText bytesText spoiledBy atText placedText replyText plain width widthFrom inDigits writes replied stepped packeted packetsText pieced piecedBy
 opened s = piecedBy noBox (holding []) (ascii s)
 
 -- the lines of a text

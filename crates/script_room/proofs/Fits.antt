@@ -14,7 +14,7 @@ use Rattle.laws.specs.Lists.{every}
 use Rattle.laws.proofs.Conditions.{choose}
 use Rattle.laws.proofs.Lists.{listed-every}
 use Rattle.laws.proofs.Numbers.{length-in-bytes}
-use Rattle.terms.specs.Answers.{numberOf}
+use Rattle.terms.specs.Answers.{numberOf, answerPlace}
 use Rattle.terms.specs.declared.Answer.{Answer}
 use Rattle.sums.specs.Sums.{sumsToZero}
 use Rattle.decimals.specs.Decimals.{inDigits, numeral}
@@ -67,7 +67,7 @@ use Rattle.script_words.specs.Kinds.{mostN, mostArea}
 use Rattle.script_boxes.specs.Boxes.{configurationOf}
 use Rattle.script_lines.specs.declared.BoxOrder.{BoxOrder}
 use Rattle.script_lines.specs.declared.BoxOrder.the-variants.{Passed, Unread, Box, Rs232, Kjw, Tcp, Udp, Show, Advert, Write, Sum, Plain}
-use Rattle.script_text.specs.Texts.{pairs, hexText, numberText, bytesText, signedText, spoiledBy, replyText}
+use Rattle.script_text.specs.Texts.{pairs, hexText, numberText, bytesText, signedText, spoiledBy, atText, placedText, replyText}
 use Rattle.script_show.specs.Shown.{shownNames, settingsText, wText, panelText}
 use Rattle.script_parts.specs.Parts.{onText, inputsText, sceneText, inputText, mutesText, kText}
 use Rattle.script_balance.specs.Balance.{gainsText, biasText, biasesText, balanceText}
@@ -138,10 +138,17 @@ spoiled-fits : (rest : List ℕ) → length (spoiledBy rest) ≤ 8
 unfolding spoiledBy
 spoiled-fits rest = either (every (eqb 0xa5) rest) [] (ascii " spoiled") 8 (omega arith) (omega arith)
 
-pub replied-short : (a : Answer) (n : ℕ) (area : List ℕ) → length (replied a n area) ≤ 2 * n + 33
+placed-fits : (answer place : ℕ) → length (placedText answer place) ≤ 31
+unfolding placedText atText
+placed-fits answer place =
+    let a = said-fits (ascii "answer ") answer in
+    let p = either (eqb place 0) [] (numberText (ascii " at ") place) 14 (omega arith) (said-fits (ascii " at ") place) in
+    simp length-append (omega (arith, a, p))
+
+pub replied-short : (a : Answer) (n : ℕ) (area : List ℕ) → length (replied a n area) ≤ 2 * n + 47
 unfolding replied replyText
 replied-short a n area =
-    let x = said-fits (ascii "answer ") (numberOf a) in
+    let x = placed-fits (numberOf a) (answerPlace a) in
     let y = told-fits (ascii " reply ") (take n area) in
     let t = taken-fits n area in
     let z = spoiled-fits (drop n area) in
@@ -322,7 +329,7 @@ advert-fits a s =
 read-fits : (r : Read) → Short (r .fields) → length (readText r) ≤ 1500
 unfolding readText
 read-fits r s =
-    let a = said-fits (ascii "answer ") (numberOf (r .answer)) in
+    let a = placed-fits (numberOf (r .answer)) (answerPlace (r .answer)) in
     either (eqb (numberOf (r .answer)) 0) (advertText (r .fields)) (answerText (r .answer)) 1500 (advert-fits (r .fields) s) (omega (arith, a))
 
 wrote-fits : (a : Fields) (area : List ℕ) → length (wrote a area) ≤ 1000
@@ -373,7 +380,7 @@ serial-fits (Balances to which v) = omega arith
 serial-turn-fits : (h : SerialHeard) (vs : List ℕ) (w : WRecord) → length (serial.turned h vs w .reply) ≤ 48
 unfolding serial.turned
 serial-turn-fits (serialIs.Refused a) vs w = omega arith
-serial-turn-fits (serialIs.Broken s) vs w = serial-fits (Nak s)
+serial-turn-fits (serialIs.Broken s p) vs w = serial-fits (Nak s)
 serial-turn-fits (serialIs.NotUnderstood s) vs w = serial-fits (Nak s)
 serial-turn-fits (serialIs.Understood s o) vs w = serial-fits (serialTexts.replyTo s o w)
 
@@ -399,7 +406,7 @@ packet-fits m (Ok t) = packed-fits m 0x01 (textOf t) (words-fit t)
 packet-turn-fits : (m : List ℕ) (h : PacketHeard) (w : WRecord) → length (packets.turned m h w .reply) ≤ 48
 unfolding packets.turned
 packet-turn-fits m (packetIs.Refused a) w = omega arith
-packet-turn-fits m packetIs.Broken w = packet-fits m Ng
+packet-turn-fits m (packetIs.Broken p) w = packet-fits m Ng
 packet-turn-fits m packetIs.NotUnderstood w = packet-fits m (Ok Bare)
 packet-turn-fits m (packetIs.Understood o) w = packet-fits m (Ok (saysOf o w))
 
@@ -433,9 +440,6 @@ writes-fit : (b : DisplayBox) (text : List ℕ) → length text ≤ 1500 → len
 unfolding writes
 writes-fit b text h = let l = length-append text (0x0a ∷ []) in omega (arith, l, h)
 
-answer-fits : (b : DisplayBox) (word : List ℕ) (v : ℕ) → length word ≤ 100 → length (writes b (numberText word v) .text) ≤ room
-answer-fits b word v h = let s = said-fits word v in writes-fit b (numberText word v) (omega (arith, s, h))
-
 message-fits : (by : Line) (b : DisplayBox) (line : List ℕ) → length (messaged by b line .text) ≤ room
 unfolding messaged stepped
 message-fits by b line =
@@ -449,11 +453,17 @@ pub order-fits : (o : BoxOrder) (b : DisplayBox) (line : List ℕ) → length (o
 unfolding ordered boxed spread summed
 order-fits Passed b line = omega arith
 order-fits Unread b line = writes-fit b (ascii "unread") (omega arith)
-order-fits Box b line = let c = configured (configurationOf line) in answer-fits (c .made) (ascii "box ") (numberOf (c .answer)) (omega arith)
+order-fits Box b line =
+    let c = configured (configurationOf line) in
+    let s = said-fits (ascii "box ") (numberOf (c .answer)) in
+    writes-fit (c .made) (numberText (ascii "box ") (numberOf (c .answer))) (omega (arith, s))
 order-fits Rs232 b line = message-fits lines.Rs232c b line
 order-fits Kjw b line = message-fits lines.Kjw b line
 order-fits Tcp b line = message-fits lines.Tcp b line
-order-fits Udp b line = let o = step b (udp (bytesAt 1 line)) in answer-fits (o .box) (ascii "answer ") (numberOf (o .answer)) (omega arith)
+order-fits Udp b line =
+    let o = step b (udp (bytesAt 1 line)) in
+    let s = placed-fits (numberOf (o .answer)) (answerPlace (o .answer)) in
+    writes-fit (o .box) (answerText (o .answer)) (omega (arith, s))
 order-fits Show b line = let s = shown-fits b (numberAt mostN 1 line) in writes-fit b (shownAt b (numberAt mostN 1 line)) (omega (arith, s))
 order-fits Advert b line = writes-fit b (readText (readOf (bytesAt 1 line))) (read-fits (readOf (bytesAt 1 line)) (read-short (bytesAt 1 line)))
 order-fits Write b line =

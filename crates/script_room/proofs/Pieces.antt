@@ -1,4 +1,4 @@
--- No line writes more than there is room for. A piece: every packet has thirteen bytes at least, and its text thirteen at most for each of
+-- No line writes more than there is room for. A piece: every packet has thirteen bytes at least, and its text fourteen at most for each of
 -- them; and no packet has a byte that was neither held nor in the piece.
 use Prim.Native.Nat.{ℕ, _+_, _*_, _≤_}
 use mathlib.Core.List.{List, [], _∷_, _++_}
@@ -41,7 +41,7 @@ held-short r = choose (λ (l : List ℕ). length l ≤ 512) (leb (r .held) 512) 
 -- ---- what is written
 
 module _ (link : ℕ) (area : List ℕ) where
-  packet-fits : (b : DisplayBox) (packet : List ℕ) → 13 ≤ length packet → length (packeted link area b packet .text) ≤ 13 * length packet
+  packet-fits : (b : DisplayBox) (packet : List ℕ) → 13 ≤ length packet → length (packeted link area b packet .text) ≤ 14 * length packet
   unfolding packeted stepped writes
   packet-fits b packet h =
       let o = step b (packetMessage link area packet) in
@@ -50,7 +50,7 @@ module _ (link : ℕ) (area : List ℕ) where
       let t = told-fits (ascii "packet ") packet in
       simp length-append (omega (arith, h, n, s, t))
 
-  packets-fit : {r s : Receiver} {p : List ℕ} {os : List (List ℕ)} (b : DisplayBox) → Feeds r p os s → length (packetsText link area b os) ≤ 13 * length (heldIn r ++ p)
+  packets-fit : {r s : Receiver} {p : List ℕ} {os : List (List ℕ)} (b : DisplayBox) → Feeds r p os s → length (packetsText link area b os) ≤ 14 * length (heldIn r ++ p)
   unfolding packetsText
   packets-fit b (last e) = omega arith
   packets-fit b (more {r = r} {p = p} {os = os} n f) =

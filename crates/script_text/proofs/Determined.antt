@@ -5,7 +5,7 @@ use Prim.Native.Nat.{ℕ}
 use lib.IntN.{ℤ}
 use Rattle.decimals.specs.Plain.{plain}
 use Rattle.script_text.specs.Puts.{Puts}
-use Rattle.script_text.specs.Texts.{numberText, bytesText, signedText, replyText}
+use Rattle.script_text.specs.Texts.{numberText, bytesText, signedText, placedText, replyText}
 use Rattle.script_text.proofs.Puts.{puts-one}
 
 pub put-one : (text d : List ℕ) (n : ℕ) (e e′ : List ℕ) (r r′ : ℕ) → Puts text d n e r → Puts text d n e′ r′ → (e ≡ e′) × (r ≡ r′)
@@ -17,8 +17,11 @@ put-number-text-one word v = put-one (numberText word v)
 pub put-bytes-text-one : (word bytes d : List ℕ) (n : ℕ) (e e′ : List ℕ) (r r′ : ℕ) → Puts (bytesText word bytes) d n e r → Puts (bytesText word bytes) d n e′ r′ → (e ≡ e′) × (r ≡ r′)
 put-bytes-text-one word bytes = put-one (bytesText word bytes)
 
-pub put-reply-one : (answer : ℕ) (reply rest d : List ℕ) (n : ℕ) (e e′ : List ℕ) (r r′ : ℕ) → Puts (replyText answer reply rest) d n e r → Puts (replyText answer reply rest) d n e′ r′ → (e ≡ e′) × (r ≡ r′)
-put-reply-one answer reply rest = put-one (replyText answer reply rest)
+pub put-placed-one : (answer place : ℕ) (d : List ℕ) (n : ℕ) (e e′ : List ℕ) (r r′ : ℕ) → Puts (placedText answer place) d n e r → Puts (placedText answer place) d n e′ r′ → (e ≡ e′) × (r ≡ r′)
+put-placed-one answer place = put-one (placedText answer place)
+
+pub put-reply-one : (answer place : ℕ) (reply rest d : List ℕ) (n : ℕ) (e e′ : List ℕ) (r r′ : ℕ) → Puts (replyText answer place reply rest) d n e r → Puts (replyText answer place reply rest) d n e′ r′ → (e ≡ e′) × (r ≡ r′)
+put-reply-one answer place reply rest = put-one (replyText answer place reply rest)
 
 pub put-signed-one : (z : ℤ) (d : List ℕ) (n : ℕ) (e e′ : List ℕ) (r r′ : ℕ) → Puts (signedText z) d n e r → Puts (signedText z) d n e′ r′ → (e ≡ e′) × (r ≡ r′)
 put-signed-one z = put-one (signedText z)

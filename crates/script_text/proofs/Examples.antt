@@ -7,7 +7,7 @@ use Rattle.laws.specs.Bytes.{ascii}
 use Rattle.decimals.specs.Decimals.{inDigits}
 use Rattle.decimals.specs.Plain.{widthFrom, width, plain}
 use Rattle.script_text.specs.Puts.{written, behind}
-use Rattle.script_text.specs.Texts.{glyph, pairs, hexText, numberText, bytesText, signedText, spoiledBy, replyText}
+use Rattle.script_text.specs.Texts.{glyph, pairs, hexText, numberText, bytesText, signedText, spoiledBy, atText, placedText, replyText}
 
 plain-0 : plain 0 ≡ ascii "0"
 unfolding plain width widthFrom inDigits
@@ -44,13 +44,22 @@ unfolding signedText plain width widthFrom inDigits
 bias-above = refl
 
 -- what goes back
-reply : replyText 0 (2 ∷ 0x5a ∷ []) (0xa5 ∷ 0xa5 ∷ []) ≡ ascii "answer 0 reply 025A"
-unfolding replyText numberText bytesText spoiledBy hexText pairs glyph plain width widthFrom inDigits
+reply : replyText 0 0 (2 ∷ 0x5a ∷ []) (0xa5 ∷ 0xa5 ∷ []) ≡ ascii "answer 0 reply 025A"
+unfolding replyText placedText atText numberText bytesText spoiledBy hexText pairs glyph plain width widthFrom inDigits
 reply = refl
 
-spoiled : replyText 12 [] (0xa5 ∷ 0xa4 ∷ []) ≡ ascii "answer 12 reply - spoiled"
-unfolding replyText numberText bytesText spoiledBy hexText plain width widthFrom inDigits
+spoiled : replyText 12 11 [] (0xa5 ∷ 0xa4 ∷ []) ≡ ascii "answer 12 at 11 reply - spoiled"
+unfolding replyText placedText atText numberText bytesText spoiledBy hexText plain width widthFrom inDigits
 spoiled = refl
+
+-- an answer alone, with the greatest place and with none
+placed : placedText 14 65535 ≡ ascii "answer 14 at 65535"
+unfolding placedText atText numberText plain width widthFrom inDigits
+placed = refl
+
+unplaced : placedText 4 0 ≡ ascii "answer 4"
+unfolding placedText atText numberText plain width widthFrom inDigits
+unplaced = refl
 
 -- text in an area, and text that the area's end cuts off
 fits : written (replicate 6 0) 1 (ascii "abc") ≡ 0 ∷ 0x61 ∷ 0x62 ∷ 0x63 ∷ 0 ∷ 0 ∷ []

@@ -37,6 +37,13 @@ signedText (negsuc n) = numberText (ascii "-") (n + 1)
 unfoldable pub spoiledBy : List ℕ → List ℕ
 spoiledBy rest = cond (every (eqb 0xa5) rest) [] (ascii " spoiled")
 
+-- "`answer A at P` where P is not 0"
+unfoldable pub atText : ℕ → List ℕ
+atText place = cond (eqb place 0) [] (numberText (ascii " at ") place)
+
+unfoldable pub placedText : ℕ → ℕ → List ℕ
+placedText answer place = numberText (ascii "answer ") answer ++ atText place
+
 -- "`answer A reply HEX`, HEX being as many bytes of the area's front as the box said that it wrote"
-unfoldable pub replyText : ℕ → List ℕ → List ℕ → List ℕ
-replyText answer reply rest = numberText (ascii "answer ") answer ++ bytesText (ascii " reply ") reply ++ spoiledBy rest
+unfoldable pub replyText : ℕ → ℕ → List ℕ → List ℕ → List ℕ
+replyText answer place reply rest = placedText answer place ++ bytesText (ascii " reply ") reply ++ spoiledBy rest

@@ -6,7 +6,7 @@ ghost use mathlib.Core.Path.{_≡_};
 ghost use Prim.Native.Nat.{_<_};
 ghost use Rattle.decimals.specs.Plain.{plain};
 ghost use Rattle.script_text.specs.Puts.{Puts};
-ghost use Rattle.script_text.specs.Texts.{glyph, pairs, hexText, numberText, bytesText, signedText, spoiledBy, replyText};
+ghost use Rattle.script_text.specs.Texts.{glyph, pairs, hexText, numberText, bytesText, signedText, spoiledBy, atText, placedText, replyText};
 
 // "a reply area of AREA bytes [..], each A5h"
 pub const FILLER: u8 = 165;
@@ -102,11 +102,36 @@ fn put_spoiled(out: &mut [u8], at: usize, rest: &[u8]) -> usize
     put(out, at, b" spoiled")
 }
 
-// What went back: the answer's number, the reply, and what stands behind it in the area.
-pub fn put_reply(out: &mut [u8], at: usize, answer: u8, reply: &[u8], rest: &[u8]) -> usize
-    ensures { λ r. ⌜ Puts (replyText answer (now (reply .entry)) (now (rest .entry))) (now (out .entry)) at (now (out .exit)) r ⌝ }
+// "`answer A at P` where P is not 0": the place that goes with an answer.
+fn put_place(out: &mut [u8], at: usize, place: u16) -> usize
+    ensures { λ r. ⌜ Puts (atText place) (now (out .entry)) at (now (out .exit)) r ⌝ }
 {
-    let a = put_number_text(out, at, b"answer ", answer as u32);
+    if place == 0 {
+        return at;
+    }
+    put_number_text(out, at, b" at ", place as u32)
+}
+
+// An answer's number, and its place.
+pub fn put_placed(out: &mut [u8], at: usize, answer: u8, place: u16) -> usize
+    ensures { λ r. ⌜ Puts (placedText answer place) (now (out .entry)) at (now (out .exit)) r ⌝ }
+{
+    let to = put_number_text(out, at, b"answer ", answer as u32);
+    put_place(out, to, place)
+}
+
+// What went back: the answer's number and place, the reply, and what stands behind it in the area.
+pub fn put_reply(
+    out: &mut [u8],
+    at: usize,
+    answer: u8,
+    place: u16,
+    reply: &[u8],
+    rest: &[u8],
+) -> usize
+    ensures { λ r. ⌜ Puts (replyText answer place (now (reply .entry)) (now (rest .entry))) (now (out .entry)) at (now (out .exit)) r ⌝ }
+{
+    let a = put_placed(out, at, answer, place);
     let b = put_bytes_text(out, a, b" reply ", reply);
     put_spoiled(out, b, rest)
 }

@@ -1,14 +1,10 @@
 -- Document 02, §5: by UDP no question is understood and every set is as by TCP, for words that are understood ask for a status exactly where
 -- they are STATget's.
 use Prim.Native.Nat.{ℕ}
-use mathlib.Core.Path.{_≡_, refl, sym, ap, _∙_}
-use mathlib.Core.Bool.{Bool, true, false, not}
+use mathlib.Core.Path.{_≡_, refl, sym, ap, subst, _∙_}
+use mathlib.Core.Bool.{Bool, true, false}
 use mathlib.Core.List.{List}
 use native.Mathlib.Omega.{arith}
-use lib.Dec.{ltb}
-use lib.ListN.{length}
-use Rattle.laws.proofs.Conditions.{passed}
-use Rattle.terms.specs.declared.Answer.the-variants.{WrongLength, NotForUs}
 use Rattle.panels.specs.Valid.{okW}
 use Rattle.panels.specs.declared.WRecord.{WRecord}
 use Rattle.vmc.specs.Orders.{carried}
@@ -18,25 +14,28 @@ use Rattle.vmc_asks.specs.declared.Order.{Order}
 use Rattle.vmc_asks.specs.declared.Order.the-variants.{Set, Shift, Reset, Get}
 use Rattle.vmc_asks.specs.declared.Words.{Words}
 use Rattle.vmc_asks.specs.declared.Words.the-variants.{Understood as UnderstoodWords, NotUnderstood as NotUnderstoodWords}
-use Rattle.sdcp_asks.specs.Asks.{isOurs, isBroken, inWords, dataOf, heardOf, unlessStatus, castOf}
+use Rattle.sdcp_asks.specs.Asks.{inWords, dataOf, heardOf, unlessStatus, castOf}
 use Rattle.sdcp_asks.specs.declared.Heard.{Heard}
 use Rattle.sdcp_asks.specs.declared.Heard.the-variants.{Refused, Broken, NotUnderstood, Understood}
 use Rattle.sdcp_asks.proofs.Cast.{cast-plain, cast-heard}
+use Rattle.sdcp_asks.proofs.Envelopes.{by-rungs}
 use Rattle.sdcp.specs.Replies.{turned, castTurnOf}
 use Rattle.sdcp.proofs.Validity.{turned-valid}
 
+-- what was understood was said in words
+abbrev Spoken : Words → Heard → Type 0
+Spoken x (Refused a) = Unit {0}
+Spoken x (Broken p) = Unit {0}
+Spoken x NotUnderstood = Unit {0}
+Spoken x (Understood o) = x ≡ UnderstoodWords o
+
+spoken : (x : Words) → Spoken x (inWords x)
+spoken (UnderstoodWords o) = refl
+spoken NotUnderstoodWords = tt
+
 -- a packet that is understood has words that are
 pub heard-words : (p : List ℕ) (o : Order) → heardOf p ≡ Understood o → readData (dataOf p) ≡ UnderstoodWords o
-unfolding heardOf
-heard-words p o e =
-    let t = passed (ltb (length p) 13) (Refused WrongLength) _ (Understood o) (λ q. let z : _≡_ {A = ℕ} 0 1 = cc in omega arith) e in
-    let u = passed (not (isOurs p)) (Refused NotForUs) _ (Understood o) (λ q. let z : _≡_ {A = ℕ} 0 1 = cc in omega arith) (t .1) in
-    let v = passed (isBroken p) Broken _ (Understood o) (λ q. let z : _≡_ {A = ℕ} 0 1 = cc in omega arith) (u .1) in
-    go (readData (dataOf p)) (v .1)
-  where
-    go : (x : Words) → inWords x ≡ Understood o → x ≡ UnderstoodWords o
-    go (UnderstoodWords o′) q = cc
-    go NotUnderstoodWords q = absurd (let z : _≡_ {A = ℕ} 0 1 = cc in omega arith)
+heard-words p o e = subst (Spoken (readData (dataOf p))) e (by-rungs (Spoken (readData (dataOf p))) p tt tt (λ h q w. tt) (λ h. spoken (readData (dataOf p))))
 
 -- whether such a packet asks for a status is its order's to say
 asks-is : (m : List ℕ) (o : Order) → heardOf m ≡ Understood o → asksStatus (dataOf m) ≡ asksOnly o
@@ -73,7 +72,7 @@ cast-carries m o w e = ap (λ (h : Heard). turned m h w .after) (cast-is m o e) 
 unless-valid : (m : List ℕ) (asked : Bool) (h : Heard) (w : WRecord) → okW w ≡ true → okW (turned m h w .after) ≡ true → okW (turned m (unlessStatus asked h) w .after) ≡ true
 unfolding turned
 unless-valid m asked (Refused a) w v k = v
-unless-valid m asked Broken w v k = v
+unless-valid m asked (Broken p) w v k = v
 unless-valid m true NotUnderstood w v k = v
 unless-valid m false NotUnderstood w v k = v
 unless-valid m true (Understood o) w v k = v

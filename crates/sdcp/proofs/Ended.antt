@@ -2,7 +2,7 @@
 -- it is broken, and its words.
 use Prim.Native.Nat.{ℕ, _<_, _≤_}
 use mathlib.Core.Path.{_≡_, refl, sym, ap, _∙_}
-use mathlib.Core.Bool.{Bool, true, false}
+use mathlib.Core.Bool.{Bool, true}
 use mathlib.Core.List.{List, [], _∷_}
 use native.Mathlib.Omega.{arith}
 use lib.ListN.{length, getD, take}
@@ -15,20 +15,21 @@ use Rattle.panels.specs.declared.WRecord.{WRecord}
 use Rattle.trimming.proofs.Trimmed.{Ended, endsBare}
 use Rattle.vmc_asks.specs.Asks.{asksStatus}
 use Rattle.vmc_asks.proofs.Ended.{read-ended, question-ended}
-use Rattle.sdcp_asks.specs.Asks.{front, isOurs, isBroken, dataOf, heardOf, unlessStatus, castOf}
+use Rattle.terms.specs.declared.Envelope.the-variants.{Good}
+use Rattle.sdcp_asks.specs.Asks.{front, isOurs, envelopeOf, dataOf, heardOf, unlessStatus, castOf}
 use Rattle.sdcp_asks.specs.declared.Heard.{Heard}
 use Rattle.sdcp_asks.specs.declared.Heard.the-variants.{Refused, Broken, NotUnderstood, Understood}
 use Rattle.sdcp.specs.Replies.{packetOf, bytesOf, turned, turnOf, castTurnOf}
 use Rattle.sdcp.specs.declared.Reply.{Reply}
 use Rattle.sdcp.specs.declared.Reply.the-variants.{Silent, Ng, Ok}
 
--- q is the packet p with an end behind its string: the same bytes before the data's length, and neither is broken
+-- q is the packet p with an end behind its string: the same bytes before the data's length, and both in a good envelope
 pub record EndedAs (p q : List ℕ) : Type 0 where
   pub front-same : take 11 q ≡ take 11 p
   pub long : 13 ≤ length p
   pub ended-long : 13 ≤ length q
-  pub sound : isBroken p ≡ false
-  pub ended-sound : isBroken q ≡ false
+  pub sound : envelopeOf p ≡ Good
+  pub ended-sound : envelopeOf q ≡ Good
   pub ends-bare : endsBare (dataOf p) ≡ true
   pub ended : Ended (dataOf p) (dataOf q)
 
@@ -66,7 +67,7 @@ module _ (p q : List ℕ) (e : EndedAs p q) where
   heard-so : (x : Heard) (w : WRecord) → turned q x w ≡ turned p x w
   unfolding turned
   heard-so (Refused a) w = refl
-  heard-so Broken w = rw (bytes-ended Ng)
+  heard-so (Broken x) w = rw (bytes-ended Ng)
   heard-so NotUnderstood w = rw (bytes-ended _)
   heard-so (Understood o) w = rw (bytes-ended _)
 

@@ -8,7 +8,9 @@ use lib.IntN.{pos, negsuc}
 use Rattle.laws.specs.Bytes.{ascii}
 use Rattle.laws.specs.Numbers.{number, inBytes}
 use Rattle.terms.specs.declared.Answer.{Answer}
-use Rattle.terms.specs.declared.Answer.the-variants.{Done, AreaTooSmall, WrongLength, NotForUs, EnvelopeWrong, NotUnderstood}
+use Rattle.terms.specs.declared.Answer.the-variants.{Done, AreaTooSmall, WrongLength, NotForUs, NotUnderstood, PartWrong}
+use Rattle.terms.specs.declared.Part.{Part}
+use Rattle.terms.specs.declared.Part.the-variants.{Request, Item, TooLong, NotMatching}
 use Rattle.turns.specs.Turns.{Turn, left, taken}
 use Rattle.decimals.specs.Decimals.{isDigit, decimal, leadsZero, isNumeral, upTo, inDigits, numeral}
 use Rattle.setting_words.specs.Names.{namedBy, ledBy, chosenBy}
@@ -19,7 +21,7 @@ use Rattle.trimming.specs.Trimming.{unterminated, unspaced, trimmed}
 use Rattle.trimming.proofs.Trimmed.{terminated, endsBare}
 use Rattle.vmc_asks.specs.Asks.{readData, readWords, readSet, readGet, valueOrder, shiftOrder}
 use Rattle.vmc_tells.specs.Texts.{textOf, setWords, moveWords, valueWords, shiftWords}
-use Rattle.sdcp_asks.specs.Asks.{isOurs, isBroken, heardOf}
+use Rattle.sdcp_asks.specs.Asks.{isOurs, envelopeOf, heardOf}
 use Rattle.sdcp.specs.Replies.{packetOf, bytesOf, turned, turnOf}
 use Rattle.sdcp.proofs.Ended.{EndedAs}
 
@@ -55,9 +57,9 @@ done size words after = row startW (packetFrom own size words) after Done (ok (0
 abbrev strange : ℕ → List ℕ → Row
 strange size words = row startW (packetFrom own size words) startW NotUnderstood (ok (0 ∷ 0 ∷ []))
 
--- 5, NG
-abbrev broken : List ℕ → ℕ → Row
-broken m item = row startW m startW EnvelopeWrong (ng item)
+-- a part of the envelope wrong (document 02, §8): NG
+abbrev broken : Part → List ℕ → ℕ → Row
+broken p m item = row startW m startW (PartWrong p) (ng item)
 
 -- no reply
 abbrev refused : ℕ → List ℕ → Answer → Row
@@ -97,10 +99,10 @@ shift-minus-0 = strange 17 (ascii "STATset SHIFTH -0")
 -- ---- * "Request 01h: ending `00 B0 00 00 02 F0 50`"; another item is echoed as it came
 
 abbrev request-1 : Row
-request-1 = broken (own ++ (0x01 ∷ 0xb0 ∷ 0x00 ∷ 0x00 ∷ 0x00 ∷ [])) 0x00
+request-1 = broken Request (own ++ (0x01 ∷ 0xb0 ∷ 0x00 ∷ 0x00 ∷ 0x00 ∷ [])) 0x00
 
 abbrev item-b001 : Row
-item-b001 = broken (own ++ (0x00 ∷ 0xb0 ∷ 0x01 ∷ 0x00 ∷ 0x00 ∷ [])) 0x01
+item-b001 = broken Item (own ++ (0x00 ∷ 0xb0 ∷ 0x01 ∷ 0x00 ∷ 0x00 ∷ [])) 0x01
 
 -- ---- "Community `sony`: 4"; twelve bytes: 3; an area of 511: 1
 
@@ -113,16 +115,28 @@ twelve = refused 512 (own ++ (0x00 ∷ 0xb0 ∷ 0x00 ∷ 0x00 ∷ [])) WrongLeng
 abbrev area-511 : Row
 area-511 = refused 511 (packetFrom own 17 (ascii "STATset VOLUME 40")) AreaTooSmall
 
--- ---- "Data length 499 in 512 bytes passes the envelope; 500 in 513: 5."; a data length that is not the data's: 5
+-- ---- "Data length 499 in 512 bytes passes the envelope; 500 in 513: 5.", which is 11 since document 02, §8; a data length that is not the
+-- data's: 12
 
 abbrev data-499 : Row
 data-499 = strange 499 (replicate 499 0x41)
 
 abbrev data-500 : Row
-data-500 = broken (packetFrom own 500 (replicate 500 0x41)) 0x00
+data-500 = broken TooLong (packetFrom own 500 (replicate 500 0x41)) 0x00
 
 abbrev data-short : Row
-data-short = broken (packetFrom own 16 (ascii "STATset VOLUME 40")) 0x00
+data-short = broken NotMatching (packetFrom own 16 (ascii "STATset VOLUME 40")) 0x00
+
+-- ---- document 02, §8, "in that order": each fault with the next behind it
+
+abbrev request-item : Row
+request-item = broken Request (own ++ (0x01 ∷ 0xb0 ∷ 0x01 ∷ 0x00 ∷ 0x00 ∷ [])) 0x01
+
+abbrev item-too-long : Row
+item-too-long = broken Item (own ++ (0x00 ∷ 0xb0 ∷ 0x01 ∷ 0xff ∷ 0xff ∷ [])) 0x01
+
+abbrev too-long-alone : Row
+too-long-alone = broken TooLong (own ++ (0x00 ∷ 0xb0 ∷ 0x00 ∷ 0xff ∷ 0xff ∷ [])) 0x00
 
 -- ---- the table
 
@@ -132,14 +146,15 @@ examples =
     shift-30 ∷ shift-31 ∷ shift-minus-0 ∷
     request-1 ∷ item-b001 ∷
     community ∷ twelve ∷ area-511 ∷
-    data-499 ∷ data-500 ∷ data-short ∷ []
+    data-499 ∷ data-500 ∷ data-short ∷
+    request-item ∷ item-too-long ∷ too-long-alone ∷ []
 
 -- every row's turn is what the packet comes to
 tried : map (λ (r : Row). taken (r .room) (turnOf (r .packet)) (r .before)) examples ≡ map (λ (r : Row). r .turn) examples
-unfolding examples taken heardOf isOurs isBroken number inBytes turned carried saysOf readData readWords trimmed unspaced unterminated readSet readGet valueOrder upTo isNumeral leadsZero shiftOrder isDigit decimal inDigits numeral namedBy ledBy chosenBy bytesOf packetOf textOf setWords moveWords valueWords shiftWords
+unfolding examples taken heardOf isOurs envelopeOf number inBytes turned carried saysOf readData readWords trimmed unspaced unterminated readSet readGet valueOrder upTo isNumeral leadsZero shiftOrder isDigit decimal inDigits numeral namedBy ledBy chosenBy bytesOf packetOf textOf setWords moveWords valueWords shiftWords
 tried = refl
 
 -- and a packet with a space and 00h behind its string is that packet without
 ended-one : EndedAs (packetFrom own 17 (ascii "STATset VOLUME 40")) (packetFrom own 19 (ascii "STATset VOLUME 40" ++ (0x20 ∷ 0x00 ∷ [])))
-unfolding isBroken number inBytes endsBare
+unfolding envelopeOf number inBytes endsBare
 ended-one = record { front-same = refl; long = omega arith; ended-long = omega arith; sound = refl; ended-sound = refl; ends-bare = refl; ended = terminated 1 }

@@ -1,25 +1,22 @@
 -- A reply's packet is what is laid over the area part by part, and what was not refused has its thirteen bytes.
 use Prim.Native.Nat.{ℕ, _+_, _≤_}
 use mathlib.Core.Path.{_≡_, refl, sym, ap, subst, _∙_}
-use mathlib.Core.Bool.{Bool, true, false, not, cond}
 use mathlib.Core.List.{List, [], _∷_, _++_, append-assoc}
 use native.Mathlib.Omega.{arith}
-use lib.Dec.{ltb}
 use lib.ListN.{length, getD, drop}
 use lib.Seq.{drop-append-seam}
-use borrow.Author.Tests.{ltb-false, le-ltb}
 use Rattle.laws.specs.Bytes.{part, laid, sent, Sent}
 use Rattle.laws.specs.Numbers.{inBytes}
 use Rattle.laws.proofs.Areas.{laid-first, laid-more, over-front}
 use Rattle.laws.proofs.Lists.{part-from, part-length}
 use Rattle.laws.proofs.Numbers.{length-in-bytes}
-use Rattle.terms.specs.declared.Answer.the-variants.{WrongLength, NotForUs}
 use Rattle.vmc_asks.specs.Asks.{readData}
 use Rattle.vmc_asks.specs.declared.Words.{Words}
 use Rattle.vmc_asks.specs.declared.Words.the-variants.{Understood as UnderstoodWords, NotUnderstood as NotUnderstoodWords}
-use Rattle.sdcp_asks.specs.Asks.{isOurs, isBroken, inWords, dataOf, heardOf}
+use Rattle.sdcp_asks.specs.Asks.{inWords, dataOf, heardOf}
 use Rattle.sdcp.specs.Replies.{packetOf}
 use Rattle.sdcp_asks.specs.declared.Heard.{Heard}
+use Rattle.sdcp_asks.proofs.Envelopes.{by-rungs}
 use Rattle.sdcp_asks.specs.declared.Heard.the-variants.{Refused, Broken, NotUnderstood, Understood}
 
 two : (l : List ℕ) → length l ≡ 2 → getD l 0 0 ∷ getD l 1 0 ∷ [] ≡ l
@@ -63,34 +60,17 @@ sends m code size body area x y z h k r e p q s =
 -- what was not refused has its thirteen bytes
 abbrev pub Long : List ℕ → Heard → Type 0
 Long m (Refused a) = Unit {0}
-Long m Broken = 13 ≤ length m
+Long m (Broken p) = 13 ≤ length m
 Long m NotUnderstood = 13 ≤ length m
 Long m (Understood o) = 13 ≤ length m
 
 pub heard-long : (m : List ℕ) → Long m (heardOf m)
-unfolding heardOf
-heard-long m = short (ltb (length m) 13) refl
+heard-long m = by-rungs (Long m) m tt tt (λ h p e. h) (words (readData (dataOf m)))
   where
     words : (x : Words) → 13 ≤ length m → Long m (inWords x)
     words (UnderstoodWords o) h = h
     words NotUnderstoodWords h = h
 
-    broken : (b : Bool) → 13 ≤ length m → Long m (cond b Broken (inWords (readData (dataOf m))))
-    broken true h = h
-    broken false h = words (readData (dataOf m)) h
-
-    ours : (b : Bool) → 13 ≤ length m → Long m (cond b (Refused NotForUs) (cond (isBroken m) Broken (inWords (readData (dataOf m)))))
-    ours true h = tt
-    ours false h = broken (isBroken m) h
-
-    short : (b : Bool) → ltb (length m) 13 ≡ b → Long m (cond b (Refused WrongLength) (cond (not (isOurs m)) (Refused NotForUs) (cond (isBroken m) Broken (inWords (readData (dataOf m))))))
-    short true e = tt
-    short false e = ours (not (isOurs m)) (ltb-false (length m) 13 e)
-
 -- "The data area, from byte 13 to its end, is read as it stands."
 pub data-stands : (head words : List ℕ) → length head ≡ 13 → dataOf (head ++ words) ≡ words
 data-stands head words e = subst (λ (n : ℕ). drop n (head ++ words) ≡ words) e (drop-append-seam head words)
-
-pub data-read : (m : List ℕ) → 13 ≤ length m → isOurs m ≡ true → isBroken m ≡ false → heardOf m ≡ inWords (readData (dataOf m))
-unfolding heardOf
-data-read m h o b = rw (le-ltb (length m) 13 h, o, b)

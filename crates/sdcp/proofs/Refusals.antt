@@ -5,6 +5,7 @@ use Prim.Native.Nat.{ℕ}
 use native.Mathlib.Omega.{arith}
 use lib.ListN.{length, getD}
 use Rattle.terms.specs.Answers.{numberOf}
+use Rattle.terms.specs.declared.Part.{Part}
 use Rattle.turns.specs.Turns.{taken}
 use Rattle.turns.proofs.Turns.{refusal-leaves as leaves}
 use Rattle.panels.specs.declared.WRecord.{WRecord}
@@ -21,20 +22,25 @@ use Rattle.sdcp.specs.declared.Reply.the-variants.{Silent, Ng, Ok}
 pub turned-answer : (m : List ℕ) (h : Heard) (w : WRecord) → turned m h w .answer ≡ answerOf h
 unfolding turned
 turned-answer m (Refused a) w = refl
-turned-answer m Broken w = refl
+turned-answer m (Broken p) w = refl
 turned-answer m NotUnderstood w = refl
 turned-answer m (Understood o) w = refl
 
 pub turn-leaves : (m : List ℕ) (h : Heard) (w : WRecord) → (numberOf (turned m h w .answer) ≡ 0 → ⊥) → turned m h w .after ≡ w
 unfolding turned
 turn-leaves m (Refused a) w n = refl
-turn-leaves m Broken w n = refl
+turn-leaves m (Broken p) w n = refl
 turn-leaves m NotUnderstood w n = refl
 turn-leaves m (Understood o) w n = absurd (n refl)
 
 -- every answer but 0 leaves the record as it was
 pub refusal-leaves : (room : ℕ) (m : List ℕ) (w : WRecord) → (numberOf (taken room (turnOf m) w .answer) ≡ 0 → ⊥) → taken room (turnOf m) w .after ≡ w
 refusal-leaves room m w = leaves room (turnOf m) w (turn-leaves m (heardOf m) w)
+
+-- document 02, §8, "The bytes sent to the console stay as they were": NG, whatever the part
+pub broken-ng : (m : List ℕ) (p : Part) (w : WRecord) → turned m (Broken p) w .reply ≡ bytesOf m Ng
+unfolding turned
+broken-ng m p w = refl
 
 -- ---- "Error F010h is never sent."
 

@@ -1,12 +1,8 @@
 -- A valid record stays valid: what an understood packet orders is in its range.
 use mathlib.Core.Path.{_≡_, refl}
-use mathlib.Core.Bool.{true, not}
+use mathlib.Core.Bool.{true}
 use mathlib.Core.List.{List}
 use Prim.Native.Nat.{ℕ}
-use lib.Dec.{ltb}
-use lib.ListN.{length}
-use Rattle.laws.proofs.Conditions.{choose}
-use Rattle.terms.specs.declared.Answer.the-variants.{WrongLength, NotForUs}
 use Rattle.turns.specs.Turns.{Turn, taken}
 use Rattle.turns.proofs.Turns.{either}
 use Rattle.panels.specs.Valid.{okW}
@@ -15,12 +11,11 @@ use Rattle.vmc_asks.specs.Asks.{readData}
 use Rattle.vmc_asks.specs.declared.Words.{Words}
 use Rattle.vmc_asks.specs.declared.Words.the-variants.{Understood as UnderstoodWords, NotUnderstood as NotUnderstoodWords}
 use Rattle.vmc.proofs.Validity.{carried-valid}
-use Rattle.sdcp_asks.specs.Asks.{isOurs, isBroken, dataOf, inWords, heardOf}
+use Rattle.sdcp_asks.specs.Asks.{dataOf, inWords}
 use Rattle.sdcp.specs.Replies.{turned, turnOf}
 use Rattle.sdcp_asks.specs.declared.Heard.{Heard}
-use Rattle.sdcp_asks.specs.declared.Heard.the-variants.{Refused, Broken}
-
 -- ---- a valid record stays valid
+use Rattle.sdcp_asks.proofs.Envelopes.{by-rungs}
 
 -- what was heard leaves or makes a valid record
 abbrev Keeps : List ℕ → WRecord → Heard → Type 0
@@ -32,12 +27,8 @@ words-keep m d w (UnderstoodWords o) e v = carried-valid d o w e v
 words-keep m d w NotUnderstoodWords e v = v
 
 pub turned-valid : (m : List ℕ) (w : WRecord) → okW w ≡ true → okW (turnOf m w .after) ≡ true
-unfolding heardOf turned
-turned-valid m w =
-    choose (Keeps m w) (ltb (length m) 13) (Refused WrongLength) _ (λ e v. v) (λ e.
-    choose (Keeps m w) (not (isOurs m)) (Refused NotForUs) _ (λ f v. v) (λ f.
-    choose (Keeps m w) (isBroken m) Broken _ (λ g v. v) (λ g.
-    words-keep m (dataOf m) w (readData (dataOf m)) refl)))
+unfolding turned
+turned-valid m w = by-rungs (Keeps m w) m (λ v. v) (λ v. v) (λ h p e v. v) (λ h. words-keep m (dataOf m) w (readData (dataOf m)) refl)
 
 -- whatever the packet and the area
 pub stays-valid : (room : ℕ) (m : List ℕ) (w : WRecord) → okW w ≡ true → okW (taken room (turnOf m) w .after) ≡ true

@@ -1,11 +1,11 @@
--- Document 01, "SDCP and VMC" and "Answer numbers", and document 02, §5: what a packet does to a W panel's record, and what is sent back by TCP.
+-- Document 01, "SDCP and VMC" and "Answer numbers", and document 02, §5 and §8: what a packet does to a W panel's record, and what is sent back by TCP.
 use Prim.Native.Nat.{ℕ}
 use mathlib.Core.List.{List, [], _∷_, _++_}
 use lib.ListN.{length}
 use Rattle.laws.specs.Bytes.{part}
 use Rattle.laws.specs.Numbers.{inBytes}
 use Rattle.terms.specs.declared.Answer.{Answer}
-use Rattle.terms.specs.declared.Answer.the-variants.{Done, EnvelopeWrong}
+use Rattle.terms.specs.declared.Answer.the-variants.{Done, PartWrong}
 use Rattle.terms.specs.declared.Answer.the-variants as answers
 use Rattle.turns.specs.Turns.{Turn, left}
 use Rattle.panels.specs.declared.WRecord.{WRecord}
@@ -32,14 +32,15 @@ bytesOf m (Ok told) = packetOf m 0x01 (textOf told)
 -- the answer to what was heard, whatever the panel
 abbrev pub answerOf : Heard → Answer
 answerOf (Refused a) = a
-answerOf Broken = EnvelopeWrong
+answerOf (Broken p) = PartWrong p
 answerOf NotUnderstood = answers.NotUnderstood
 answerOf (Understood o) = Done
 
--- what a packet does to the panel that it is addressed to; 5 is "SDCP NG by TCP", 6 "SDCP OK with no data by TCP"
+-- what a packet does to the panel that it is addressed to; 5 is "SDCP NG by TCP", 6 "SDCP OK with no data by TCP". Where document 02, §8, has 9 to
+-- 12 in the place of 5, "the bytes sent to the console stay as they were".
 unfoldable pub turned : List ℕ → Heard → WRecord → Turn WRecord
 turned m (Refused a) w = left w a
-turned m Broken w = record { after = w; answer = EnvelopeWrong; reply = bytesOf m Ng }
+turned m (Broken p) w = record { after = w; answer = PartWrong p; reply = bytesOf m Ng }
 turned m NotUnderstood w = record { after = w; answer = answers.NotUnderstood; reply = bytesOf m (Ok Bare) }
 turned m (Understood o) w = record { after = carried o w; answer = Done; reply = bytesOf m (Ok (saysOf o w)) }
 

@@ -72,11 +72,11 @@ pub fn take_packet(w: WRecord, m: &[u8], area: &mut [u8]) -> Outcome
             answer,
             len: 0,
         },
-        Heard::Broken => {
+        Heard::Broken(part) => {
             let len = put_packet(m, 0, b"\xF0\x50", area);
             Outcome {
                 after: w,
-                answer: Answer::EnvelopeWrong,
+                answer: Answer::PartWrong(part),
                 len,
             }
         }

@@ -1,9 +1,11 @@
 // SDCP: what a packet asks, whoever it is addressed to and whatever the panel (document 01, "SDCP and VMC (001, 002, 004)"; document
-// 02, §5).
+// 02, §5 and §8).
 use octets::begins_with;
 use octets::byte_at;
 use octets::number2;
 use terms::Answer;
+use terms::Envelope;
+use terms::Part;
 use vmc_asks::Order;
 use vmc_asks::Words;
 use vmc_asks::asks_status;
@@ -12,14 +14,14 @@ ghost use mathlib.Core.Path.{_≡_};
 ghost use Prim.Native.Nat.{_≤_};
 ghost use Rattle.vmc_asks.specs.Asks.{asksStatus};
 ghost use lib.ListN.{length};
-ghost use Rattle.sdcp_asks.specs.Asks.{isOurs, isBroken, dataOf, heardOf, castOf};
+ghost use Rattle.sdcp_asks.specs.Asks.{isOurs, envelopeOf, dataOf, heardOf, castOf};
 
 // What a packet asks, whoever is addressed.
 pub enum Heard {
     // 3 and 4, and by UDP 8: no reply
     Refused(Answer),
-    // 5
-    Broken,
+    // 9 to 12
+    Broken(Part),
     // 6
     NotUnderstood,
     Understood(Order),
@@ -32,22 +34,25 @@ pub fn is_ours(m: &[u8]) -> bool
     begins_with(m, b"\x03\x0BSONY")
 }
 
-// Request, item and data length.
-fn is_broken(m: &[u8]) -> bool
+// Request, item and data length, in this order.
+fn envelope_of(m: &[u8]) -> Envelope
     requires { ⌜ 13 ≤ length (now m) ⌝ }
-    ensures { λ r. ⌜ r ≡ isBroken (now (m .entry)) ⌝ }
+    ensures { λ r. ⌜ r ≡ envelopeOf (now (m .entry)) ⌝ }
 {
     if byte_at(m, 8) != 0 {
-        return true;
+        return Envelope::Wrong(Part::Request);
     }
     if number2(byte_at(m, 9), byte_at(m, 10)) != 0xB000 {
-        return true;
+        return Envelope::Wrong(Part::Item);
     }
     let size = number2(byte_at(m, 11), byte_at(m, 12)) as usize;
     if 499 < size {
-        return true;
+        return Envelope::Wrong(Part::TooLong);
     }
-    size != m.len() - 13
+    if size != m.len() - 13 {
+        return Envelope::Wrong(Part::NotMatching);
+    }
+    Envelope::Good
 }
 
 // What the packet asks. The data area, from byte 13 to its end, is lent on to the word reader.
@@ -60,8 +65,8 @@ pub fn hear(m: &[u8]) -> Heard
     if !is_ours(m) {
         return Heard::Refused(Answer::NotForUs);
     }
-    if is_broken(m) {
-        return Heard::Broken;
+    if let Envelope::Wrong(part) = envelope_of(m) {
+        return Heard::Broken(part);
     }
     let Words::Understood(o) = read_data(&m[13..]) else {
         return Heard::NotUnderstood;
@@ -79,7 +84,7 @@ fn asks_for_status(m: &[u8]) -> bool
     asks_status(&m[13..])
 }
 
-// What a packet asks that came by UDP. What it asks for is looked at behind the envelope, so that 8 comes after 5 and before 6.
+// What a packet asks that came by UDP. What it asks for is looked at behind the envelope, so that 8 comes after 12 and before 6.
 pub fn hear_cast(m: &[u8]) -> Heard
     ensures { λ r. ⌜ r ≡ castOf (now (m .entry)) ⌝ }
 {
@@ -89,7 +94,7 @@ pub fn hear_cast(m: &[u8]) -> Heard
     }
     match h {
         Heard::Refused(answer) => Heard::Refused(answer),
-        Heard::Broken => Heard::Broken,
+        Heard::Broken(part) => Heard::Broken(part),
         Heard::NotUnderstood => Heard::Refused(Answer::StatusByBroadcast),
         Heard::Understood(_) => Heard::Refused(Answer::StatusByBroadcast),
     }

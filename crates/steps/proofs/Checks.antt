@@ -119,7 +119,7 @@ packet-checked : (b : DisplayBox) (x : Message) (m : List ℕ) (none asked : Boo
 unfolding step toNobody
 packet-checked b x m true asked d a = rw (d, nobody-shut m, or-true (not (packetAsks.isOurs m))) (go (ltb (length m) 13))
   where
-    go : (t : Bool) → numberOf (cond t WrongLength NotForUs) ≡ firstOf ownChecks (t ∷ true ∷ packetAsks.isBroken m ∷ asked ∷ packetUnclear (packetAsks.heardOf m) ∷ [])
+    go : (t : Bool) → numberOf (cond t WrongLength NotForUs) ≡ firstOf ownChecks (t ∷ true ∷ packetAsks.requestWrong m ∷ packetAsks.itemWrong m ∷ packetAsks.tooLong m ∷ packetAsks.notMatching m ∷ false ∷ false ∷ asked ∷ packetUnclear (packetAsks.heardOf m) ∷ [])
     go true = refl
     go false = refl
 packet-checked b x m false asked d a = rw d (ap numberOf a ∙ packet-answered m asked)

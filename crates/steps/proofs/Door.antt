@@ -40,7 +40,7 @@ abbrev pub opens : List Name → Message → Bool
 opens ns m = eqb (numberOf (door ns m)) 0
 
 pub opens-done : (ns : List Name) (m : Message) → opens ns m ≡ true → door ns m ≡ Done
-opens-done ns m o = number-tells (door ns m) Done (eqb-true (numberOf (door ns m)) 0 o)
+opens-done ns m o = number-tells (door ns m) Done (omega arith) (eqb-true (numberOf (door ns m)) 0 o)
 
 pub done-opens : (ns : List Name) (m : Message) → door ns m ≡ Done → opens ns m ≡ true
 done-opens ns m d = ap (λ (a : Answer). eqb (numberOf a) 0) d

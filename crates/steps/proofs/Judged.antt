@@ -1,15 +1,16 @@
 -- Behind the envelope a message is understood or it is not: by the rungs of what each protocol hears, whatever the panel.
-use Prim.Native.Nat.{ℕ, _+_, _*_, _%_}
+use Prim.Native.Nat.{ℕ, _-_}
 use mathlib.Core.Path.{_≡_, refl, sym, _∙_}
 use mathlib.Core.Bool.{Bool, true, false, not, cond, _&&_, _||_}
 use mathlib.Core.List.{List, [], _∷_}
-use lib.Count.{ones}
 use lib.Dec.{eqb, ltb}
 use lib.ListN.{length, getD, drop}
 use Rattle.laws.specs.Bytes.{ascii, part, same}
 use Rattle.laws.specs.Lists.{every}
 use Rattle.laws.proofs.Conditions.{choose, false-true}
-use Rattle.terms.specs.Answers.{numberOf}
+use Rattle.terms.specs.Answers.{partNumber, numberOf}
+use Rattle.terms.specs.declared.Part.the-variants.{Request, Item, TooLong, NotMatching, Count, Checksum}
+use Rattle.terms.specs.declared.Envelope.the-variants.{Good, Wrong}
 use Rattle.terms.specs.declared.Answer.the-variants.{WrongLength, NotForUs}
 use Rattle.panels.specs.declared.WRecord.{WRecord}
 use Rattle.panels.specs.declared.KRecord.{KRecord}
@@ -20,7 +21,7 @@ use Rattle.vmc_asks.specs.declared.Order as wordOrder
 use Rattle.vmc_asks.specs.declared.Words.{Words}
 use Rattle.vmc_asks.specs.declared.Words.the-variants.{Understood as UnderstoodWords, NotUnderstood as NotUnderstoodWords}
 use Rattle.rs232c_asks.specs.Asks as serialAsks
-use Rattle.rs232c_asks.specs.Commands.{configGood, selectGood}
+use Rattle.rs232c_asks.proofs.Envelopes as serialEnvelopes
 use Rattle.rs232c.specs.Replies as serial
 use Rattle.rs232c_asks.specs.declared.Order as serialOrder
 use Rattle.rs232c_asks.specs.declared.Order.the-variants as serialOrders
@@ -64,64 +65,48 @@ ownChecks = drop 2 checks
 -- what was heard is not understood
 abbrev pub serialUnclear : serialHeard.Heard → Bool
 serialUnclear (serialIs.Refused a) = false
-serialUnclear (serialIs.Broken s) = false
+serialUnclear (serialIs.Broken s p) = false
 serialUnclear (serialIs.NotUnderstood s) = true
 serialUnclear (serialIs.Understood s o) = false
 
--- "Under 6 bytes: 3. First byte not 02h, destination not 01h, or source outside 41h to 7Fh: 4. Byte count [..]: 5. The sum [..]: 5.", and 6 where the
--- command is not understood
+-- "Under 6 bytes: 3. First byte not 02h, destination not 01h, or source outside 41h to 7Fh: 4.", then document 02, §8, "13 byte count, 14 checksum",
+-- and 6 where the command is not understood
 abbrev pub serialConditions : List ℕ → List Bool
-serialConditions m = ltb (length m) 6 ∷ serialAsks.isForeign m ∷ serialAsks.isBroken m ∷ false ∷ serialUnclear (serialAsks.heardOf m) ∷ []
+serialConditions m =
+    ltb (length m) 6 ∷ serialAsks.isForeign m ∷ false ∷ false ∷ false ∷ false ∷ serialAsks.countWrong m ∷ serialAsks.sumWrong m ∷ false
+    ∷ serialUnclear (serialAsks.heardOf m) ∷ []
 
 abbrev serialNumber : serialHeard.Heard → ℕ
 serialNumber (serialIs.Refused a) = numberOf a
-serialNumber (serialIs.Broken s) = 5
+serialNumber (serialIs.Broken s p) = partNumber p
 serialNumber (serialIs.NotUnderstood s) = 6
 serialNumber (serialIs.Understood s o) = 0
 
--- neither refused nor broken
-abbrev SerialJudged : serialHeard.Heard → Type 0
-SerialJudged (serialIs.Refused a) = ⊥
-SerialJudged (serialIs.Broken s) = ⊥
-SerialJudged (serialIs.NotUnderstood s) = Unit {0}
-SerialJudged (serialIs.Understood s o) = Unit {0}
-
-serial-number : (h : serialHeard.Heard) → SerialJudged h → serialNumber h ≡ cond (serialUnclear h) 6 0
+serial-number : (h : serialHeard.Heard) → serialEnvelopes.Judged h → serialNumber h ≡ cond (serialUnclear h) 6 0
 serial-number (serialIs.Refused a) j = absurd j
-serial-number (serialIs.Broken s) j = absurd j
+serial-number (serialIs.Broken s p) j = absurd j
 serial-number (serialIs.NotUnderstood s) j = refl
 serial-number (serialIs.Understood s o) j = refl
 
-good-judged : (good : Bool) (s : ℕ) (o : serialOrder.Order) → SerialJudged (serialAsks.ifGood good s o)
-good-judged true s o = tt
-good-judged false s o = tt
-
-command-judged : (s code : ℕ) (bytes : List ℕ) → SerialJudged (serialAsks.commandOf s code bytes)
-unfolding serialAsks.commandOf serialAsks.configCommand serialAsks.selectCommand serialAsks.levelsCommand serialAsks.senseCommand serialAsks.remoteCommand
-command-judged s code bytes =
-    let n = length bytes in
-    let x = serialAsks.first bytes in
-    let y = serialAsks.second bytes in
-    choose SerialJudged (eqb code 0x21) _ _ (λ e. good-judged (eqb n 2 && configGood x y) s (serialOrders.Config x y))
-    (λ e. choose SerialJudged (eqb code 0x22) _ _ (λ f. good-judged (eqb n 1 && selectGood x) s (serialOrders.Select x))
-    (λ f. choose SerialJudged (eqb code 0x40) _ _ (λ g. good-judged (eqb n (1 + 2 * ones (x % 64))) s (serialOrders.Levels x))
-    (λ g. choose SerialJudged (eqb code 0x61) _ _ (λ h. good-judged (eqb n 1 && (eqb x 1 || eqb x 2)) s (serialOrders.Sense x))
-    (λ h. choose SerialJudged (eqb code 0x6e) _ _ (λ i. good-judged (eqb n 0) s serialOrders.Remote) (λ i. tt)))))
+-- the ladder of what is heard of a frame, by its conditions
+abbrev serialRungs : Bool → Bool → Bool → Bool → ℕ → ℕ → serialHeard.Heard → serialHeard.Heard
+serialRungs a b c d s at h = cond a (serialIs.Refused WrongLength) (cond b (serialIs.Refused NotForUs) (serialAsks.unlessWrong s (cond c (Wrong Count) (cond d (Wrong (Checksum at)) Good)) h))
 
 serial-heard : (m : List ℕ) → serialNumber (serialAsks.heardOf m) ≡ firstOf ownChecks (serialConditions m)
-unfolding serialAsks.heardOf
-serial-heard m = go (ltb (length m) 6) (serialAsks.isForeign m) (serialAsks.isBroken m) (serialAsks.sourceOf m) _ (command-judged _ _ _)
+unfolding serialAsks.heardOf serialAsks.envelopeOf
+serial-heard m = go (ltb (length m) 6) (serialAsks.isForeign m) (serialAsks.countWrong m) (serialAsks.sumWrong m) (serialAsks.sourceOf m) (length m - 1) _ (serialEnvelopes.command-judged _ _ _)
   where
-    go : (a b c : Bool) (s : ℕ) (h : serialHeard.Heard) → SerialJudged h → serialNumber (cond a (serialIs.Refused WrongLength) (cond b (serialIs.Refused NotForUs) (cond c (serialIs.Broken s) h))) ≡ firstOf ownChecks (a ∷ b ∷ c ∷ false ∷ serialUnclear (cond a (serialIs.Refused WrongLength) (cond b (serialIs.Refused NotForUs) (cond c (serialIs.Broken s) h))) ∷ [])
-    go true b c s h j = refl
-    go false true c s h j = refl
-    go false false true s h j = refl
-    go false false false s h j = serial-number h j
+    go : (a b c d : Bool) (s at : ℕ) (h : serialHeard.Heard) → serialEnvelopes.Judged h → serialNumber (serialRungs a b c d s at h) ≡ firstOf ownChecks (a ∷ b ∷ false ∷ false ∷ false ∷ false ∷ c ∷ d ∷ false ∷ serialUnclear (serialRungs a b c d s at h) ∷ [])
+    go true b c d s at h j = refl
+    go false true c d s at h j = refl
+    go false false true d s at h j = refl
+    go false false false true s at h j = refl
+    go false false false false s at h j = serial-number h j
 
 serial-turned : (h : serialHeard.Heard) (vs : List ℕ) (w : WRecord) → numberOf (serial.turned h vs w .answer) ≡ serialNumber h
 unfolding serial.turned
 serial-turned (serialIs.Refused a) vs w = refl
-serial-turned (serialIs.Broken s) vs w = refl
+serial-turned (serialIs.Broken s p) vs w = refl
 serial-turned (serialIs.NotUnderstood s) vs w = refl
 serial-turned (serialIs.Understood s o) vs w = refl
 
@@ -135,17 +120,17 @@ serial-unclear m = go (serialAsks.heardOf m)
   where
     go : (h : serialHeard.Heard) → serialUnclear h ≡ true → (s : ℕ) × (h ≡ serialIs.NotUnderstood s)
     go (serialIs.Refused a) u = absurd (false-true u)
-    go (serialIs.Broken s) u = absurd (false-true u)
+    go (serialIs.Broken s p) u = absurd (false-true u)
     go (serialIs.NotUnderstood s) u = (s, refl)
     go (serialIs.Understood s o) u = absurd (false-true u)
 
-pub serial-clear : (m : List ℕ) → ltb (length m) 6 ≡ false → serialAsks.isForeign m ≡ false → serialAsks.isBroken m ≡ false → serialUnclear (serialAsks.heardOf m) ≡ false → (s : ℕ) × (o : serialOrder.Order) × (serialAsks.heardOf m ≡ serialIs.Understood s o)
+pub serial-clear : (m : List ℕ) → ltb (length m) 6 ≡ false → serialAsks.isForeign m ≡ false → serialAsks.envelopeOf m ≡ Good → serialUnclear (serialAsks.heardOf m) ≡ false → (s : ℕ) × (o : serialOrder.Order) × (serialAsks.heardOf m ≡ serialIs.Understood s o)
 unfolding serialAsks.heardOf
-serial-clear m a b c = rw (a, b, c) (go _ (command-judged _ _ _))
+serial-clear m a b c = rw (a, b, c) (go _ (serialEnvelopes.command-judged _ _ _))
   where
-    go : (h : serialHeard.Heard) → SerialJudged h → serialUnclear h ≡ false → (s : ℕ) × (o : serialOrder.Order) × (h ≡ serialIs.Understood s o)
+    go : (h : serialHeard.Heard) → serialEnvelopes.Judged h → serialUnclear h ≡ false → (s : ℕ) × (o : serialOrder.Order) × (h ≡ serialIs.Understood s o)
     go (serialIs.Refused a) j u = absurd j
-    go (serialIs.Broken s) j u = absurd j
+    go (serialIs.Broken s p) j u = absurd j
     go (serialIs.NotUnderstood s) j u = absurd (false-true (sym u))
     go (serialIs.Understood s o) j u = (s, o, refl)
 
@@ -153,25 +138,26 @@ serial-clear m a b c = rw (a, b, c) (go _ (command-judged _ _ _))
 
 abbrev pub packetUnclear : packetHeard.Heard → Bool
 packetUnclear (packetIs.Refused a) = false
-packetUnclear packetIs.Broken = false
+packetUnclear (packetIs.Broken p) = false
 packetUnclear packetIs.NotUnderstood = true
 packetUnclear (packetIs.Understood o) = false
 
--- "Under 13 bytes: 3. Wrong version, category or community, or no panel addressed: 4. [..] Then 5 if request is not 00h, [..]", 8 where a status
--- is asked for that may not be, and 6 where the words are not understood
+-- "Under 13 bytes: 3. Wrong version, category or community, or no panel addressed: 4.", then document 02, §8, "9 request, 10 item, 11 over 499, 12 not
+-- matching", 8 where a status is asked for that may not be, and 6 where the words are not understood
 abbrev pub packetConditions : Bool → Bool → List ℕ → List Bool
 packetConditions nobody asked m =
-    ltb (length m) 13 ∷ (not (packetAsks.isOurs m) || nobody) ∷ packetAsks.isBroken m ∷ asked ∷ packetUnclear (packetAsks.heardOf m) ∷ []
+    ltb (length m) 13 ∷ (not (packetAsks.isOurs m) || nobody) ∷ packetAsks.requestWrong m ∷ packetAsks.itemWrong m ∷ packetAsks.tooLong m
+    ∷ packetAsks.notMatching m ∷ false ∷ false ∷ asked ∷ packetUnclear (packetAsks.heardOf m) ∷ []
 
 abbrev PacketJudged : packetHeard.Heard → Type 0
 PacketJudged (packetIs.Refused a) = ⊥
-PacketJudged packetIs.Broken = ⊥
+PacketJudged (packetIs.Broken p) = ⊥
 PacketJudged packetIs.NotUnderstood = Unit {0}
 PacketJudged (packetIs.Understood o) = Unit {0}
 
 packet-number : (asked : Bool) (h : packetHeard.Heard) → PacketJudged h → numberOf (packets.answerOf (packetAsks.unlessStatus asked h)) ≡ cond asked 8 (cond (packetUnclear h) 6 0)
 packet-number asked (packetIs.Refused a) j = absurd j
-packet-number asked packetIs.Broken j = absurd j
+packet-number asked (packetIs.Broken p) j = absurd j
 packet-number true packetIs.NotUnderstood j = refl
 packet-number false packetIs.NotUnderstood j = refl
 packet-number true (packetIs.Understood o) j = refl
@@ -181,33 +167,44 @@ words-judged : (x : Words) → PacketJudged (packetAsks.inWords x)
 words-judged (UnderstoodWords o) = tt
 words-judged NotUnderstoodWords = tt
 
+-- the ladder of what is heard of a packet, by its conditions
+abbrev packetRungs : Bool → Bool → Bool → Bool → Bool → Bool → packetHeard.Heard → packetHeard.Heard
+packetRungs a b q i l n h =
+    cond a (packetIs.Refused WrongLength) (cond b (packetIs.Refused NotForUs)
+    (packetAsks.unlessWrong (cond q (Wrong Request) (cond i (Wrong Item) (cond l (Wrong TooLong) (cond n (Wrong NotMatching) Good)))) h))
+
 -- the number of the answer to a packet, whatever the panel, and whether or not a status is refused
 pub packet-answered : (m : List ℕ) (asked : Bool) → numberOf (packets.answerOf (packetAsks.unlessStatus asked (packetAsks.heardOf m))) ≡ firstOf ownChecks (packetConditions false asked m)
-unfolding packetAsks.heardOf
-packet-answered m asked = go (ltb (length m) 13) (not (packetAsks.isOurs m)) (packetAsks.isBroken m) _ (words-judged (readData (packetAsks.dataOf m)))
+unfolding packetAsks.heardOf packetAsks.envelopeOf
+packet-answered m asked =
+    go (ltb (length m) 13) (not (packetAsks.isOurs m)) (packetAsks.requestWrong m) (packetAsks.itemWrong m) (packetAsks.tooLong m) (packetAsks.notMatching m) _
+    (words-judged (readData (packetAsks.dataOf m)))
   where
-    go : (a b c : Bool) (h : packetHeard.Heard) → PacketJudged h → numberOf (packets.answerOf (packetAsks.unlessStatus asked (cond a (packetIs.Refused WrongLength) (cond b (packetIs.Refused NotForUs) (cond c packetIs.Broken h))))) ≡ firstOf ownChecks (a ∷ (b || false) ∷ c ∷ asked ∷ packetUnclear (cond a (packetIs.Refused WrongLength) (cond b (packetIs.Refused NotForUs) (cond c packetIs.Broken h))) ∷ [])
-    go true b c h j = refl
-    go false true c h j = refl
-    go false false true h j = refl
-    go false false false h j = packet-number asked h j
+    go : (a b q i l n : Bool) (h : packetHeard.Heard) → PacketJudged h → numberOf (packets.answerOf (packetAsks.unlessStatus asked (packetRungs a b q i l n h))) ≡ firstOf ownChecks (a ∷ (b || false) ∷ q ∷ i ∷ l ∷ n ∷ false ∷ false ∷ asked ∷ packetUnclear (packetRungs a b q i l n h) ∷ [])
+    go true b q i l n h j = refl
+    go false true q i l n h j = refl
+    go false false true i l n h j = refl
+    go false false false true l n h j = refl
+    go false false false false true n h j = refl
+    go false false false false false true h j = refl
+    go false false false false false false h j = packet-number asked h j
 
 pub packet-unclear : (m : List ℕ) → packetUnclear (packetAsks.heardOf m) ≡ true → packetAsks.heardOf m ≡ packetIs.NotUnderstood
 packet-unclear m = go (packetAsks.heardOf m)
   where
     go : (h : packetHeard.Heard) → packetUnclear h ≡ true → h ≡ packetIs.NotUnderstood
     go (packetIs.Refused a) u = absurd (false-true u)
-    go packetIs.Broken u = absurd (false-true u)
+    go (packetIs.Broken p) u = absurd (false-true u)
     go packetIs.NotUnderstood u = refl
     go (packetIs.Understood o) u = absurd (false-true u)
 
-pub packet-clear : (m : List ℕ) → ltb (length m) 13 ≡ false → packetAsks.isOurs m ≡ true → packetAsks.isBroken m ≡ false → packetUnclear (packetAsks.heardOf m) ≡ false → (o : wordOrder.Order) × (packetAsks.heardOf m ≡ packetIs.Understood o)
+pub packet-clear : (m : List ℕ) → ltb (length m) 13 ≡ false → packetAsks.isOurs m ≡ true → packetAsks.envelopeOf m ≡ Good → packetUnclear (packetAsks.heardOf m) ≡ false → (o : wordOrder.Order) × (packetAsks.heardOf m ≡ packetIs.Understood o)
 unfolding packetAsks.heardOf
 packet-clear m a b c = rw (a, b, c) (go _ (words-judged (readData (packetAsks.dataOf m))))
   where
     go : (h : packetHeard.Heard) → PacketJudged h → packetUnclear h ≡ false → (o : wordOrder.Order) × (h ≡ packetIs.Understood o)
     go (packetIs.Refused a) j u = absurd j
-    go packetIs.Broken j u = absurd j
+    go (packetIs.Broken p) j u = absurd j
     go packetIs.NotUnderstood j u = absurd (false-true (sym u))
     go (packetIs.Understood o) j u = (o, refl)
 
@@ -220,7 +217,9 @@ frameUnclear (frameIs.Understood o) = false
 
 -- "Other length: 3. Wrong `*S`, footer, or a type not C or E: 4. [..] All else: 6.": there is no envelope to be wrong
 abbrev pub frameConditions : List ℕ → List Bool
-frameConditions m = not (eqb (length m) 24) ∷ not (frameAsks.isOurs m) ∷ false ∷ false ∷ frameUnclear (frameAsks.heardOf m) ∷ []
+frameConditions m =
+    not (eqb (length m) 24) ∷ not (frameAsks.isOurs m) ∷ false ∷ false ∷ false ∷ false ∷ false ∷ false ∷ false
+    ∷ frameUnclear (frameAsks.heardOf m) ∷ []
 
 abbrev frameNumber : frameHeard.Heard → ℕ
 frameNumber (frameIs.Refused a) = numberOf a
@@ -302,7 +301,7 @@ frame-heard : (m : List ℕ) → frameNumber (frameAsks.heardOf m) ≡ firstOf o
 unfolding frameAsks.heardOf
 frame-heard m = go (not (eqb (length m) 24)) (not (frameAsks.isOurs m)) _ (asks-judged m)
   where
-    go : (a b : Bool) (h : frameHeard.Heard) → FrameJudged h → frameNumber (cond a (frameIs.Refused WrongLength) (cond b (frameIs.Refused NotForUs) h)) ≡ firstOf ownChecks (a ∷ b ∷ false ∷ false ∷ frameUnclear (cond a (frameIs.Refused WrongLength) (cond b (frameIs.Refused NotForUs) h)) ∷ [])
+    go : (a b : Bool) (h : frameHeard.Heard) → FrameJudged h → frameNumber (cond a (frameIs.Refused WrongLength) (cond b (frameIs.Refused NotForUs) h)) ≡ firstOf ownChecks (a ∷ b ∷ false ∷ false ∷ false ∷ false ∷ false ∷ false ∷ false ∷ frameUnclear (cond a (frameIs.Refused WrongLength) (cond b (frameIs.Refused NotForUs) h)) ∷ [])
     go true b h j = refl
     go false true h j = refl
     go false false h j = frame-number h j

@@ -13,6 +13,8 @@ pub mod Notices
 pub mod Numbered
 pub mod Obeyed
 pub mod Only
+pub mod Parts
+pub mod Placed
 pub mod Opened
 pub mod ReadBack
 pub mod Refusals

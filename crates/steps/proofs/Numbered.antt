@@ -1,6 +1,6 @@
 -- Every message is answered with a number of the list: that of one of its checks, or 0.
 use Prim.Native.Nat.{ℕ}
-use mathlib.Core.Path.{_≡_, refl, ap, subst, _∙_}
+use mathlib.Core.Path.{_≡_, refl, sym, ap, subst, _∙_}
 use mathlib.Core.Bool.{Bool, true, false, _||_, or-true}
 use mathlib.Core.List.{List, [], _∷_}
 use lib.Dec.{eqb}
@@ -30,6 +30,14 @@ first-listed (n ∷ ns) (false ∷ cs) = go (eqb (firstOf ns cs) 0) (eqb (firstO
 pub numbered : (b : DisplayBox) (m : Message) → listed messageAnswers (numberOf (step b m .answer)) ≡ true
 numbered b m = ap (listed messageAnswers) (checked b m) ∙ first-listed checks (conditions b m)
 
+-- so none with a number that it has not
+never : (n : ℕ) → listed messageAnswers n ≡ false → (b : DisplayBox) (m : Message) → numberOf (step b m .answer) ≡ n → ⊥
+never n l b m e = false-true (sym l ∙ subst (λ (k : ℕ). listed messageAnswers k ≡ true) e (numbered b m))
+
+-- 5 is the answer to an advert only, since document 02, §8, has 9 to 14 for messages
+pub never-five : (b : DisplayBox) (m : Message) → numberOf (step b m .answer) ≡ 5 → ⊥
+never-five = never 5 refl
+
 -- 7 is the answer to a configuration only
 pub never-seven : (b : DisplayBox) (m : Message) → numberOf (step b m .answer) ≡ 7 → ⊥
-never-seven b m e = false-true (subst (λ (n : ℕ). listed messageAnswers n ≡ true) e (numbered b m))
+never-seven = never 7 refl

@@ -1,7 +1,7 @@
 -- "each is given only when its stated condition holds": what an answer's number says of the box and the message, in words of the record and
 -- the bytes, and that no check before it applied. The answer is the number of the first condition that holds (`checked`).
 use Prim.Native.Nat.{ℕ, zero, suc, _%_, _<_, _≤_}
-use mathlib.Core.Path.{_≡_, refl, sym, ap, _∙_}
+use mathlib.Core.Path.{_≡_, refl, sym, ap, subst, _∙_}
 use mathlib.Core.Bool.{Bool, true, false, not, cond, _&&_, _||_, or-true}
 use mathlib.Core.List.{List, [], _∷_}
 use native.Mathlib.Omega.{arith}
@@ -10,13 +10,17 @@ use lib.ListN.{length, getD}
 use borrow.Author.Tests.{eqb-true, eqb-false, eq-eqb, ltb-true, ltb-false, not-true, not-false, ne-eqb}
 use Rattle.laws.specs.Lists.{listed}
 use Rattle.laws.proofs.Conditions.{and-first, and-second, false-true}
-use Rattle.terms.specs.Answers.{numberOf}
+use Rattle.terms.specs.Answers.{partNumber, numberOf}
+use Rattle.terms.specs.declared.Part.{Part}
+use Rattle.terms.specs.declared.Part.the-variants.{Request, Item, TooLong, NotMatching, Count, Checksum}
+use Rattle.terms.specs.declared.Envelope.the-variants.{Good}
 use Rattle.panels.specs.Records.{familyW, familyK}
 use Rattle.panels.specs.Valid.{valid}
 use Rattle.panels.specs.declared.DisplayBox.{DisplayBox}
 use Rattle.configure.specs.Configure.{asked, refusal, configured}
-use Rattle.terms.specs.declared.Answer.the-variants.{Done}
+use Rattle.terms.specs.declared.Answer.the-variants.{Done, PartWrong}
 use Rattle.rs232c_asks.specs.Asks as serialAsks
+use Rattle.rs232c_asks.proofs.Envelopes as serialEnvelopes
 use Rattle.rs232c_asks.specs.declared.Order as serialOrder
 use Rattle.rs232c_asks.specs.declared.Heard.the-variants as serialIs
 use Rattle.kjw_asks.specs.Asks as frameAsks
@@ -24,6 +28,7 @@ use Rattle.kjw_sets.specs.declared.Order as frameOrder
 use Rattle.kjw_sets.specs.declared.Heard.the-variants as frameIs
 use Rattle.vmc_asks.specs.Asks.{asksStatus}
 use Rattle.sdcp_asks.specs.Asks as packetAsks
+use Rattle.sdcp_asks.proofs.Envelopes as packetEnvelopes
 use Rattle.sdcp_asks.proofs.Cast.{cast-plain}
 use Rattle.vmc_asks.specs.declared.Order as wordOrder
 use Rattle.sdcp_asks.specs.declared.Heard.the-variants as packetIs
@@ -35,6 +40,7 @@ use Rattle.steps.proofs.Refusals.{none-called, no-target}
 use Rattle.steps.proofs.Stays.{neither}
 use Rattle.steps.proofs.Judged.{firstOf, serial-unclear, serial-clear, packet-unclear, packet-clear, frame-unclear, frame-clear}
 use Rattle.steps.proofs.Checks.{hasPanel, conditions, checked}
+use Rattle.steps.proofs.Parts.{Broken, Told, told}
 
 -- ---- the stated conditions
 
@@ -82,12 +88,12 @@ Foreign b (kjw l m area) = frameAsks.isOurs m ≡ false
 Foreign b (tcp l m area) = NotOurs b (tcp l m area) m
 Foreign b (udp m) = NotOurs b (udp m) m
 
--- 5: "envelope wrong"; KJW has none
-abbrev pub Broken : Message → Type 0
-Broken (rs232c l m area) = serialAsks.isBroken m ≡ true
-Broken (kjw l m area) = ⊥
-Broken (tcp l m area) = packetAsks.isBroken m ≡ true
-Broken (udp m) = packetAsks.isBroken m ≡ true
+-- document 02, §8: an envelope with no part that is wrong; KJW has none
+abbrev pub Whole : Message → Type 0
+Whole (rs232c l m area) = serialEnvelopes.Whole m
+Whole (kjw l m area) = Unit {0}
+Whole (tcp l m area) = packetEnvelopes.Whole m
+Whole (udp m) = packetEnvelopes.Whole m
 
 -- 8: document 02, §5, "came by UDP, and the trimmed data is STATget alone or begins with STATget and a space"
 abbrev pub Asking : Message → Type 0
@@ -272,31 +278,37 @@ module _ (b : DisplayBox) where
   for-us (tcp l m area) e f = ours (eqb (target (names b) (tcp l m area)) 0) (targeted l m area) e f
   for-us (udp m) e f = ours (not (anyCalled m (names b))) (λ n. ap not (none-called m (names b) n)) e f
 
-  broken : (m : Message) → at m 4 ≡ true → Broken m
-  broken (rs232c l m area) e = e
-  broken (kjw l m area) e = false-true e
-  broken (tcp l m area) e = e
-  broken (udp m) e = e
+  -- conditions 4 to 9 are the parts of the envelope
+  abbrev NoPart : Message → Type 0
+  NoPart m = (j : ℕ) → j < 10 → at m j ≡ false
 
-  whole : (m : Message) → at m 4 ≡ false → Broken m → ⊥
-  whole (rs232c l m area) e f = false-true (sym e ∙ f)
-  whole (kjw l m area) e f = f
-  whole (tcp l m area) e f = false-true (sym e ∙ f)
-  whole (udp m) e f = false-true (sym e ∙ f)
+  serial-good : (l : ℕ) (m area : List ℕ) → NoPart (rs232c l m area) → serialAsks.envelopeOf m ≡ Good
+  unfolding serialAsks.envelopeOf
+  serial-good l m area n = rw (n 8 (omega arith), n 9 (omega arith))
 
-  asking : (m : Message) → at m 5 ≡ true → Asking m
+  packet-good : (x : Message) (m : List ℕ) → at x 4 ≡ packetAsks.requestWrong m → at x 5 ≡ packetAsks.itemWrong m → at x 6 ≡ packetAsks.tooLong m → at x 7 ≡ packetAsks.notMatching m → NoPart x → packetAsks.envelopeOf m ≡ Good
+  unfolding packetAsks.envelopeOf
+  packet-good x m q i t u n = rw (sym q ∙ n 4 (omega arith), sym i ∙ n 5 (omega arith), sym t ∙ n 6 (omega arith), sym u ∙ n 7 (omega arith))
+
+  whole : (m : Message) → NoPart m → Whole m
+  whole (rs232c l m area) n = serialEnvelopes.good-whole m (serial-good l m area n)
+  whole (kjw l m area) n = tt
+  whole (tcp l m area) n = packetEnvelopes.good-whole m (packet-good (tcp l m area) m refl refl refl refl n)
+  whole (udp m) n = packetEnvelopes.good-whole m (packet-good (udp m) m refl refl refl refl n)
+
+  asking : (m : Message) → at m 10 ≡ true → Asking m
   asking (rs232c l m area) e = false-true e
   asking (kjw l m area) e = false-true e
   asking (tcp l m area) e = false-true e
   asking (udp m) e = e
 
-  not-asking : (m : Message) → at m 5 ≡ false → Asking m → ⊥
+  not-asking : (m : Message) → at m 10 ≡ false → Asking m → ⊥
   not-asking (rs232c l m area) e f = f
   not-asking (kjw l m area) e f = f
   not-asking (tcp l m area) e f = f
   not-asking (udp m) e f = false-true (sym e ∙ f)
 
-  unclear : (m : Message) → at m 5 ≡ false → at m 6 ≡ true → Unclear m
+  unclear : (m : Message) → at m 10 ≡ false → at m 11 ≡ true → Unclear m
   unclear (rs232c l m area) a e = serial-unclear m e
   unclear (kjw l m area) a e = frame-unclear m e
   unclear (tcp l m area) a e = packet-unclear m e
@@ -306,12 +318,12 @@ module _ (b : DisplayBox) where
   is-ours m none e = not-false (packetAsks.isOurs m) (neither (not (packetAsks.isOurs m)) none e .0)
 
   clear : (m : Message) → ((j : ℕ) → at m j ≡ false) → Clear m
-  clear (rs232c l m area) n = serial-clear m (n 2) (n 3) (n 4) (n 6)
-  clear (kjw l m area) n = frame-clear m (not-false (eqb (length m) 24) (n 2)) (not-false (frameAsks.isOurs m) (n 3)) (n 6)
-  clear (tcp l m area) n = packet-clear m (n 2) (is-ours m (eqb (target (names b) (tcp l m area)) 0) (n 3)) (n 4) (n 6)
+  clear (rs232c l m area) n = serial-clear m (n 2) (n 3) (serial-good l m area (λ j h. n j)) (n 11)
+  clear (kjw l m area) n = frame-clear m (not-false (eqb (length m) 24) (n 2)) (not-false (frameAsks.isOurs m) (n 3)) (n 11)
+  clear (tcp l m area) n = packet-clear m (n 2) (is-ours m (eqb (target (names b) (tcp l m area)) 0) (n 3)) (packet-good (tcp l m area) m refl refl refl refl (λ j h. n j)) (n 11)
   clear (udp m) n =
-      let t = packet-clear m (n 2) (is-ours m (not (anyCalled m (names b))) (n 3)) (n 4) (n 6) in
-      (t .0, cast-plain m (n 5) ∙ t .1)
+      let t = packet-clear m (n 2) (is-ours m (not (anyCalled m (names b))) (n 3)) (packet-good (udp m) m refl refl refl refl (λ j h. n j)) (n 11) in
+      (t .0, cast-plain m (n 10) ∙ t .1)
 
   fired : (m : Message) (k : ℕ) → k < length checks → numberOf (step b m .answer) ≡ getD checks k 0 → Fires (conditions b m) k
   fired m k h e = fires checks (conditions b m) k refl h (sym (checked b m) ∙ e)
@@ -321,6 +333,16 @@ module _ (b : DisplayBox) where
   each-checked (kjw l m area) = omega arith
   each-checked (tcp l m area) = omega arith
   each-checked (udp m) = omega arith
+
+-- ---- a part's number among the checks
+
+checkOf : (p : Part) → (k : ℕ) × (4 ≤ k) × (k < length checks) × (getD checks k 0 ≡ partNumber p)
+checkOf Request = (4, omega arith, omega arith, refl)
+checkOf Item = (5, omega arith, omega arith, refl)
+checkOf TooLong = (6, omega arith, omega arith, refl)
+checkOf NotMatching = (7, omega arith, omega arith, refl)
+checkOf Count = (8, omega arith, omega arith, refl)
+checkOf (Checksum place) = (9, omega arith, omega arith, refl)
 
 -- ---- each answer, of every box and every message
 
@@ -340,29 +362,36 @@ module _ (b : DisplayBox) (m : Message) where
       let n = t .none-before in
       (let-in b m (n 0 (omega arith)) (n 1 (omega arith)), long b m (n 2 (omega arith)), foreign b m (t .holds))
 
-  pub only-5 : numberOf (step b m .answer) ≡ 5 → LetIn b m × (BadLength m → ⊥) × (Foreign b m → ⊥) × Broken m
-  only-5 e =
-      let t = fired b m 4 (omega arith) e in
+  -- behind 4 the message was let in, is long enough, and is for us
+  behind : (k : ℕ) → 4 ≤ k → Fires (conditions b m) k → LetIn b m × (BadLength m → ⊥) × (Foreign b m → ⊥)
+  behind k h t =
       let n = t .none-before in
-      (let-in b m (n 0 (omega arith)) (n 1 (omega arith)), long b m (n 2 (omega arith)), for-us b m (n 3 (omega arith)), broken b m (t .holds))
+      (let-in b m (n 0 (omega arith)) (n 1 (omega arith)), long b m (n 2 (omega arith)), for-us b m (n 3 (omega arith)))
 
-  pub only-8 : numberOf (step b m .answer) ≡ 8 → LetIn b m × (BadLength m → ⊥) × (Foreign b m → ⊥) × (Broken m → ⊥) × Asking m
+  -- 9 to 14, of every part: `told` says what is wrong
+  pub only-part : (p : Part) → step b m .answer ≡ PartWrong p → LetIn b m × (BadLength m → ⊥) × (Foreign b m → ⊥) × Broken m p
+  only-part p e =
+      let c = checkOf p in
+      let t = behind (c .0) (c .1) (fired b m (c .0) (c .2) (ap numberOf e ∙ sym (c .3))) in
+      (t .0, t .1, t .2, subst (Told m) e (told b m))
+
+  pub only-8 : numberOf (step b m .answer) ≡ 8 → LetIn b m × (BadLength m → ⊥) × (Foreign b m → ⊥) × Whole m × Asking m
   only-8 e =
-      let t = fired b m 5 (omega arith) e in
-      let n = t .none-before in
-      (let-in b m (n 0 (omega arith)) (n 1 (omega arith)), long b m (n 2 (omega arith)), for-us b m (n 3 (omega arith)), whole b m (n 4 (omega arith)), asking b m (t .holds))
+      let t = fired b m 10 (omega arith) e in
+      let h = behind 10 (omega arith) t in
+      (h .0, h .1, h .2, whole b m (λ j i. t .none-before j i), asking b m (t .holds))
 
-  pub only-6 : numberOf (step b m .answer) ≡ 6 → LetIn b m × (BadLength m → ⊥) × (Foreign b m → ⊥) × (Broken m → ⊥) × (Asking m → ⊥) × Unclear m
+  pub only-6 : numberOf (step b m .answer) ≡ 6 → LetIn b m × (BadLength m → ⊥) × (Foreign b m → ⊥) × Whole m × (Asking m → ⊥) × Unclear m
   only-6 e =
-      let t = fired b m 6 (omega arith) e in
-      let n = t .none-before in
-      let a = n 5 (omega arith) in
-      (let-in b m (n 0 (omega arith)) (n 1 (omega arith)), long b m (n 2 (omega arith)), for-us b m (n 3 (omega arith)), whole b m (n 4 (omega arith)), not-asking b m a, unclear b m a (t .holds))
+      let t = fired b m 11 (omega arith) e in
+      let h = behind 11 (omega arith) t in
+      let a = t .none-before 10 (omega arith) in
+      (h .0, h .1, h .2, whole b m (λ j i. t .none-before j (omega arith)), not-asking b m a, unclear b m a (t .holds))
 
-  pub only-0 : numberOf (step b m .answer) ≡ 0 → LetIn b m × (BadLength m → ⊥) × (Foreign b m → ⊥) × (Broken m → ⊥) × (Asking m → ⊥) × Clear m
+  pub only-0 : numberOf (step b m .answer) ≡ 0 → LetIn b m × (BadLength m → ⊥) × (Foreign b m → ⊥) × Whole m × (Asking m → ⊥) × Clear m
   only-0 e =
       let n = none checks (conditions b m) refl (each-checked b m) (sym (checked b m) ∙ e) in
-      (let-in b m (n 0) (n 1), long b m (n 2), for-us b m (n 3), whole b m (n 4), not-asking b m (n 5), clear b m n)
+      (let-in b m (n 0) (n 1), long b m (n 2), for-us b m (n 3), whole b m (λ j h. n j), not-asking b m (n 10), clear b m n)
 
 -- ---- a configuration
 

@@ -42,7 +42,7 @@ openedNames c = names (configured c .made)
 
 -- RS-232C
 unfoldable openedSerial : List ℕ → WRecord → Turn WRecord
-unfolding sumOf ones onesIn serialAsks.isForeign serialAsks.isBroken serialAsks.levelsCommand serialAsks.remoteCommand serialAsks.commandOf serialAsks.heardOf serialLevels.decode serialLevels.balancedBy serialOrders.carried serialTexts.frameOf serialTexts.bytesOf serialTexts.replyTo serial.turned
+unfolding sumOf ones onesIn serialAsks.isForeign serialAsks.envelopeOf serialAsks.levelsCommand serialAsks.remoteCommand serialAsks.commandOf serialAsks.heardOf serialLevels.decode serialLevels.balancedBy serialOrders.carried serialTexts.frameOf serialTexts.bytesOf serialTexts.replyTo serial.turned
 openedSerial m w = serial.turnOf m w
 
 -- KJW
@@ -52,7 +52,7 @@ openedFrames m k = frames.turnOf m k
 
 -- SDCP and VMC
 unfoldable openedPackets : List ℕ → WRecord → Turn WRecord
-unfolding number inBytes isDigit decimal leadsZero isNumeral upTo inDigits numeral namedBy ledBy chosenBy unterminated unspaced trimmed wordAsks.isQuestion wordAsks.asksStatus wordAsks.readData wordAsks.readWords wordAsks.readSet wordAsks.readGet wordAsks.valueOrder wordAsks.shiftOrder words.carried words.saysOf textOf setWords valueWords packetAsks.isOurs packetAsks.isBroken packetAsks.heardOf packetAsks.castOf packets.packetOf packets.bytesOf packets.turned
+unfolding number inBytes isDigit decimal leadsZero isNumeral upTo inDigits numeral namedBy ledBy chosenBy unterminated unspaced trimmed wordAsks.isQuestion wordAsks.asksStatus wordAsks.readData wordAsks.readWords wordAsks.readSet wordAsks.readGet wordAsks.valueOrder wordAsks.shiftOrder words.carried words.saysOf textOf setWords valueWords packetAsks.isOurs packetAsks.envelopeOf packetAsks.heardOf packetAsks.castOf packets.packetOf packets.bytesOf packets.turned
 openedPackets m w = packets.turnOf m w
 
 -- the step

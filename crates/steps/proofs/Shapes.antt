@@ -91,14 +91,14 @@ serial-keep Remote vs w s = s
 serial-turned : (h : serialHeard.Heard) (vs : List ℕ) (w : WRecord) → Shaped w → Shaped (serial.turned h vs w .after)
 unfolding serial.turned
 serial-turned (serialIs.Refused a) vs w s = s
-serial-turned (serialIs.Broken x) vs w s = s
+serial-turned (serialIs.Broken x p) vs w s = s
 serial-turned (serialIs.NotUnderstood x) vs w s = s
 serial-turned (serialIs.Understood x o) vs w s = serial-keep o vs w s
 
 packet-turned : (m : List ℕ) (h : packetHeard.Heard) (w : WRecord) → Shaped w → Shaped (packets.turned m h w .after)
 unfolding packets.turned
 packet-turned m (packetIs.Refused a) w s = s
-packet-turned m packetIs.Broken w s = s
+packet-turned m (packetIs.Broken p) w s = s
 packet-turned m packetIs.NotUnderstood w s = s
 packet-turned m (packetIs.Understood o) w s = words-keep o w s
 

@@ -8,6 +8,7 @@ use lib.Dec.{eqb}
 use lib.ListN.{length}
 use Rattle.laws.proofs.Conditions.{and-first, and-second, and-both}
 use Rattle.terms.specs.Answers.{numberOf}
+use Rattle.terms.proofs.Answers.{part-late}
 use Rattle.turns.specs.Turns.{Turn, taken, turnWith}
 use Rattle.turns.proofs.Turns.{either}
 use Rattle.panels.specs.Records.{familyW, familyK}
@@ -50,7 +51,7 @@ quiet {R} room f x = either (λ (t : Turn R). Quiet (numberOf (t .answer)) (t .r
 serial-heard : (h : serialHeard.Heard) (vs : List ℕ) (w : WRecord) → Quiet (numberOf (serial.turned h vs w .answer)) (serial.turned h vs w .reply)
 unfolding serial.turned
 serial-heard (serialIs.Refused a) vs w z l = refl
-serial-heard (serialIs.Broken s) vs w z l = absurd (omega arith)
+serial-heard (serialIs.Broken s p) vs w z l = let n = part-late p in absurd (omega (arith, n, l))
 serial-heard (serialIs.NotUnderstood s) vs w z l = absurd (omega arith)
 serial-heard (serialIs.Understood s o) vs w z l = absurd (z refl)
 
@@ -67,7 +68,7 @@ frame-quiet m k = frame-heard (frameAsks.heardOf m) _ k
 packet-heard : (m : List ℕ) (h : packetHeard.Heard) (w : WRecord) → Quiet (numberOf (packets.turned m h w .answer)) (packets.turned m h w .reply)
 unfolding packets.turned
 packet-heard m (packetIs.Refused a) w z l = refl
-packet-heard m packetIs.Broken w z l = absurd (omega arith)
+packet-heard m (packetIs.Broken p) w z l = let n = part-late p in absurd (omega (arith, n, l))
 packet-heard m packetIs.NotUnderstood w z l = absurd (omega arith)
 packet-heard m (packetIs.Understood o) w z l = absurd (z refl)
 

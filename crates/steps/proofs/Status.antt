@@ -6,21 +6,21 @@ use mathlib.Core.Bool.{Bool, true, false}
 use mathlib.Core.List.{List}
 use native.Mathlib.Omega.{arith}
 use lib.ListN.{length}
-use borrow.Author.Tests.{le-ltb}
 use Rattle.laws.proofs.Conditions.{false-true}
 use Rattle.terms.specs.Answers.{numberOf}
 use Rattle.terms.specs.declared.Answer.{Answer}
 use Rattle.terms.specs.declared.Answer.the-variants.{StatusByBroadcast}
-use Rattle.terms.proofs.Answers.{number-tells}
+use Rattle.terms.specs.declared.Envelope.the-variants.{Good}
 use Rattle.panels.specs.declared.DisplayBox.{DisplayBox}
 use Rattle.vmc_asks.specs.Asks.{asksStatus}
-use Rattle.sdcp_asks.specs.Asks.{isOurs, isBroken, dataOf}
+use Rattle.sdcp_asks.specs.Asks.{isOurs, envelopeOf, dataOf}
+use Rattle.sdcp_asks.proofs.Cast.{cast-status}
+use Rattle.sdcp.specs.Replies.{answerOf}
 use Rattle.steps.specs.Messages.{udp, names}
 use Rattle.steps.specs.Addressing.{addressed, anyCalled}
-use Rattle.steps.specs.Step.{Back, refused, step}
+use Rattle.steps.specs.Step.{Back, door, refused, step}
 use Rattle.steps.proofs.Addressed.{foreign-udp}
 use Rattle.steps.proofs.Refusals.{refused-leaves, udp-quiet}
-use Rattle.steps.proofs.Checks.{checked}
 use Rattle.steps.proofs.Only.{uncalled}
 
 module _ (b : DisplayBox) (m : List ℕ) (i : ℕ) (a : addressed (names b) (udp m) i ≡ true) where
@@ -41,12 +41,14 @@ module _ (b : DisplayBox) (m : List ℕ) (i : ℕ) (a : addressed (names b) (udp
       go true e = refl
       go false e = absurd (false-true (sym (uncalled m (names b) e i) ∙ a))
 
+  answered : 13 ≤ length m → envelopeOf m ≡ Good → asksStatus (dataOf m) ≡ true → step b (udp m) .answer ≡ StatusByBroadcast
+  unfolding step door
+  answered h w e = rw some (ap answerOf (cast-status m h ours w e))
+
   -- whatever the box, and whatever follows the word: "no panel changes and no reply is sent"
-  pub status-refused : 13 ≤ length m → isBroken m ≡ false → asksStatus (dataOf m) ≡ true → step b (udp m) ≡ refused b (udp m) StatusByBroadcast
+  pub status-refused : 13 ≤ length m → envelopeOf m ≡ Good → asksStatus (dataOf m) ≡ true → step b (udp m) ≡ refused b (udp m) StatusByBroadcast
   status-refused h w e =
-      ap (λ (x : DisplayBox). record { box = x; answer = step b (udp m) .answer; back = step b (udp m) .back }) (refused-leaves b (udp m) (λ z. omega (arith, number, z)))
-      ∙ ap (λ (x : Answer). record { box = b; answer = x; back = step b (udp m) .back }) (number-tells (step b (udp m) .answer) StatusByBroadcast number)
+      let n = ap numberOf (answered h w e) in
+      ap (λ (x : DisplayBox). record { box = x; answer = step b (udp m) .answer; back = step b (udp m) .back }) (refused-leaves b (udp m) (λ z. omega (arith, n, z)))
+      ∙ ap (λ (x : Answer). record { box = b; answer = x; back = step b (udp m) .back }) (answered h w e)
       ∙ ap (λ (x : Back). record { box = b; answer = StatusByBroadcast; back = x }) (udp-quiet b m)
-    where
-      number : numberOf (step b (udp m) .answer) ≡ 8
-      number = checked b (udp m) ∙ rw (le-ltb (length m) 13 h, ours, some, w, e)

@@ -35,7 +35,7 @@ use Rattle.steps.proofs.Turns.{either, unmeant}
 -- what was heard is an order that sets name j
 abbrev pub ordersIt : Heard → ℕ → Bool
 ordersIt (Refused a) j = false
-ordersIt Broken j = false
+ordersIt (Broken p) j = false
 ordersIt NotUnderstood j = false
 ordersIt (Understood o) j = wordBack.touches o j
 
@@ -72,7 +72,7 @@ unmoved h w = record { told-stays = λ j n. refl; inputs-stay = refl; balance-st
 turned-left : (m : List ℕ) (h : Heard) (w : WRecord) → Left h w (packets.turned m h w .after)
 unfolding packets.turned
 turned-left m (Refused a) w = unmoved (Refused a) w
-turned-left m Broken w = unmoved Broken w
+turned-left m (Broken p) w = unmoved (Broken p) w
 turned-left m NotUnderstood w = unmoved NotUnderstood w
 turned-left m (Understood o) w =
     let s = wordStays.stays o w in

@@ -1,4 +1,4 @@
--- Document 01, "Answer numbers" and the forms, and document 02, §5: the one step, what a message does to a box.
+-- Document 01, "Answer numbers" and the forms, and document 02, §5 and §8: the one step, what a message does to a box.
 use Prim.Native.Nat.{ℕ, _-_}
 use mathlib.Core.Bool.{Bool, cond}
 use mathlib.Core.List.{List, [], _∷_}
@@ -31,11 +31,12 @@ withK p k = record { family = p .family; group = p .group; unit = p .unit; spare
 abbrev pub withPanels : DisplayBox → List Panel → DisplayBox
 withPanels b ps = record { count = b .count; panels = ps }
 
--- "Checks run in the order of the numbers", and document 02, §5, "8, after 5 and before 6": the numbers in the order of their checks
+-- "Checks run in the order of the numbers"; document 02, §5, "8, after 5 and before 6", and §8, "9 request, 10 item, 11 over 499, 12 not matching,
+-- 13 byte count, 14 checksum; in that order within each form, at the old place of 5": the numbers in the order of their checks
 abbrev pub checks : List ℕ
-checks = 1 ∷ 2 ∷ 3 ∷ 4 ∷ 5 ∷ 8 ∷ 6 ∷ []
+checks = 1 ∷ 2 ∷ 3 ∷ 4 ∷ 9 ∷ 10 ∷ 11 ∷ 12 ∷ 13 ∷ 14 ∷ 8 ∷ 6 ∷ []
 
--- the numbers that a message can be answered with: 7 is for a configuration alone
+-- the numbers that a message can be answered with: 7 is for a configuration alone, 5 for an advert
 abbrev pub messageAnswers : List ℕ
 messageAnswers = 0 ∷ checks
 

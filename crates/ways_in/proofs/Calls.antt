@@ -16,6 +16,7 @@ use Rattle.vmc.specs.Orders.{carried}
 use Rattle.vmc_asks.specs.declared.Order.{Order}
 use Rattle.sdcp_asks.specs.Asks.{castOf}
 use Rattle.sdcp.specs.Replies.{answerOf, turned}
+use Rattle.terms.specs.declared.Part.{Part}
 use Rattle.sdcp_asks.specs.declared.Heard.{Heard}
 use Rattle.sdcp_asks.specs.declared.Heard.the-variants.{Refused, Broken, NotUnderstood, Understood}
 use Rattle.steps.specs.Messages.{udp, Name, nobody, nameOf, names}
@@ -36,13 +37,13 @@ called b m e = rw e
 -- what was heard orders nothing
 pub data Idle : Heard → Type 0 where
   refusing : (a : Answer) → Idle (Refused a)
-  broken : Idle Broken
+  broken : (p : Part) → Idle (Broken p)
   strange : Idle NotUnderstood
 
 idle-turn : (m : List ℕ) (h : Heard) (p : Panel) → Idle h → withW p (turned m h (p .w) .after) ≡ p
 unfolding turned
 idle-turn m _ p (refusing a) = refl
-idle-turn m _ p broken = refl
+idle-turn m _ p (broken x) = refl
 idle-turn m _ p strange = refl
 
 pub idle : (b : DisplayBox) (m : List ℕ) (h : Heard) → anyCalled m (names b) ≡ true → castOf m ≡ h → Idle h → step b (udp m) ≡ record { box = b; answer = answerOf h; back = nothing }

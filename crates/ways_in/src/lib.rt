@@ -13,7 +13,6 @@ use sdcp::take_packet;
 use sdcp_asks::Heard;
 use sdcp_asks::hear_cast;
 use terms::Answer;
-use terms::answer_number;
 use vmc::obey;
 use vmc_asks::Order;
 ghost use mathlib.Core.Path.{_≡_};
@@ -51,11 +50,22 @@ struct Acted {
     len: usize,
 }
 
-// The answer is 0.
+// The answer is 0. It is asked which answer it is, and not for its number: so nothing stands between a record and the outcome that it goes into.
 fn is_done(a: Answer) -> bool
     ensures { λ r. ⌜ r ≡ eqb (numberOf a) 0 ⌝ }
 {
-    answer_number(a) == 0
+    match a {
+        Answer::Done => true,
+        Answer::AreaTooSmall => false,
+        Answer::NoSuchPanel => false,
+        Answer::WrongLength => false,
+        Answer::NotForUs => false,
+        Answer::EnvelopeWrong => false,
+        Answer::NotUnderstood => false,
+        Answer::BadConfiguration => false,
+        Answer::StatusByBroadcast => false,
+        Answer::PartWrong(_) => false,
+    }
 }
 
 // A refusal leaves the box as it was, and there is no reply. That it is not done is written out: so a caller that stores what was
@@ -223,7 +233,7 @@ fn take_udp(b: DisplayBox, m: &[u8]) -> Outcome
     }
     match hear_cast(m) {
         Heard::Refused(answer) => refused(b, answer),
-        Heard::Broken => refused(b, Answer::EnvelopeWrong),
+        Heard::Broken(part) => refused(b, Answer::PartWrong(part)),
         Heard::NotUnderstood => refused(b, Answer::NotUnderstood),
         Heard::Understood(o) => {
             let ps = b.panels;

@@ -13,6 +13,7 @@ use second::advert::{self, Wanted};
 use second::answer::Answer;
 use second::config::{configure, DisplayBox};
 use second::message::{receive, Way};
+use second::script::answer_text;
 
 /// The panels of the script that `./bench instructions` counts.
 const PANELS: &[u8] = b"W\x01\x01W\x01\x02W\x02\x01W\x02\x02W\x03\x01W\x03\x02K\x00\x00W\x04\x01";
@@ -81,20 +82,20 @@ fn on_a_link(times: u32, way: &str, link: u32, area: usize, bytes: &[u8]) -> Opt
         "tcp" => repeated(times, || receive(&mut held, Way::Tcp { link, area }, bytes)),
         _ => return None,
     };
-    let told = told(times, took, outcome.answer);
+    let told = told(times, took, outcome.answer, outcome.place);
     Some(with_reply(told, &lent[..outcome.written]))
 }
 
 fn by_udp(times: u32, bytes: &[u8]) -> Option<String> {
     let mut held = eight_panels()?;
     let (took, outcome) = repeated(times, || receive(&mut held, Way::Udp, bytes));
-    Some(told(times, took, outcome.answer))
+    Some(told(times, took, outcome.answer, outcome.place))
 }
 
 /// The fields are made too, and seen to be used; only the answer is printed, as for the box.
 fn read_advert(times: u32, bytes: &[u8]) -> Option<String> {
     let (took, answer) = repeated(times, || black_box(&advert::read(bytes)).0);
-    Some(told(times, took, answer))
+    Some(told(times, took, answer, 0))
 }
 
 fn write_advert(times: u32, area: usize, words: &[&str]) -> Option<String> {
@@ -129,11 +130,12 @@ fn write_advert(times: u32, area: usize, words: &[&str]) -> Option<String> {
     } else {
         0
     };
-    Some(with_reply(told(times, took, answer), &area[..written]))
+    Some(with_reply(told(times, took, answer, 0), &area[..written]))
 }
 
-fn told(times: u32, took: u128, answer: Answer) -> String {
-    format!("{times} {took} answer {}", answer.number())
+/// The answer as in a script, with its place where it has one (document 02, §8).
+fn told(times: u32, took: u128, answer: Answer, place: usize) -> String {
+    format!("{times} {took} {}", answer_text(answer, place))
 }
 
 fn with_reply(told: String, reply: &[u8]) -> String {
@@ -155,4 +157,42 @@ fn hex(word: &str) -> Option<Vec<u8>> {
             _ => None,
         })
         .collect()
+}
+
+#[cfg(test)]
+mod tests {
+    use super::*;
+
+    /// What is printed behind the nanoseconds.
+    fn told(order: &str) -> Option<String> {
+        let words: Vec<&str> = ["3"].into_iter().chain(order.split(' ')).collect();
+        let line = run(&words)?;
+        let mut words = line.splitn(3, ' ');
+        assert_eq!(words.next(), Some("3"));
+        assert!(words.next().unwrap().parse::<u128>().is_ok());
+        words.next().map(str::to_string)
+    }
+
+    // The answer is told as in a script, with its place where that is not 0 (document 02, §8).
+    #[test]
+    fn answers_and_their_places() {
+        for (order, text) in [
+            ("rs232 1 512 020301416E4D", "answer 0 reply 020441017E013B"),
+            (
+                "rs232 1 512 020301416E4E",
+                "answer 14 at 5 reply 0203410105B6",
+            ),
+            ("rs232 9 512 020301416E4E", "answer 2 reply -"),
+            (
+                "tcp 1 512 030B534F4E59000001B0000000",
+                "answer 9 at 8 reply 030B534F4E59000000B0000002F050",
+            ),
+            ("udp 030B534F4E59FFFF00B00001F4", "answer 11 at 11"),
+            ("udp 030B534F4E59FFFF00B0000000", "answer 6"),
+            ("advert 00", "answer 3"),
+        ] {
+            assert_eq!(told(order).as_deref(), Some(text), "{order}");
+        }
+        assert_eq!(told("show 1"), None);
+    }
 }

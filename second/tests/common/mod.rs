@@ -5,8 +5,11 @@ use second::config::{configure, DisplayBox};
 use second::message::{receive, Outcome, Way};
 use second::panel::{KSettings, Settings, WSettings};
 
-/// The number of the answer and the reply's bytes.
+/// The number of an answer that has place 0, and the reply's bytes.
 pub type Told = (u8, Vec<u8>);
+
+/// The number of an answer, its place (document 02, §8), and the reply's bytes.
+pub type ToldAt = (u8, usize, Vec<u8>);
 
 /// A good box of these panels: family, group, unit.
 pub fn new_box(panels: &[(u8, u8, u8)]) -> DisplayBox {
@@ -43,9 +46,17 @@ pub fn k(held: &mut DisplayBox, link: usize) -> &mut KSettings {
 }
 
 /// Checks that the bytes behind the reply kept what they held, and gives the reply.
+fn told_at(outcome: Outcome, area: &[u8]) -> ToldAt {
+    let (reply, behind) = area.split_at(outcome.written);
+    assert!(behind.iter().all(|byte| *byte == 0x5A));
+    (outcome.answer.number(), outcome.place, reply.to_vec())
+}
+
+/// Checks too that the answer has place 0, as all have that name no part of the envelope.
 fn told(outcome: Outcome, area: &[u8]) -> Told {
-    assert!(area[outcome.written..].iter().all(|byte| *byte == 0x5A));
-    (outcome.answer.number(), area[..outcome.written].to_vec())
+    let (number, place, reply) = told_at(outcome, area);
+    assert_eq!(place, 0, "of the answer {number}");
+    (number, reply)
 }
 
 pub fn rs232_in(held: &mut DisplayBox, link: u32, size: usize, bytes: &[u8]) -> Told {
@@ -88,9 +99,36 @@ pub fn tcp(held: &mut DisplayBox, link: u32, bytes: &[u8]) -> Told {
 }
 
 pub fn udp(held: &mut DisplayBox, bytes: &[u8]) -> u8 {
+    let (number, place) = udp_at(held, bytes);
+    assert_eq!(place, 0, "of the answer {number}");
+    number
+}
+
+/// As [`rs232`], for an answer that has a place.
+pub fn rs232_at(held: &mut DisplayBox, link: u32, bytes: &[u8]) -> ToldAt {
+    let mut area = vec![0x5A; 512];
+    let way = Way::Rs232c {
+        link,
+        area: &mut area,
+    };
+    told_at(receive(held, way, bytes), &area)
+}
+
+/// As [`tcp`], for an answer that has a place.
+pub fn tcp_at(held: &mut DisplayBox, link: u32, bytes: &[u8]) -> ToldAt {
+    let mut area = vec![0x5A; 512];
+    let way = Way::Tcp {
+        link,
+        area: &mut area,
+    };
+    told_at(receive(held, way, bytes), &area)
+}
+
+/// As [`udp`], for an answer that has a place.
+pub fn udp_at(held: &mut DisplayBox, bytes: &[u8]) -> (u8, usize) {
     let outcome = receive(held, Way::Udp, bytes);
     assert_eq!(outcome.written, 0);
-    outcome.answer.number()
+    (outcome.answer.number(), outcome.place)
 }
 
 /// An RS-232C message from 41h with a right count and checksum.
@@ -117,6 +155,10 @@ pub fn nak(number: u8) -> Told {
     (number, hex("02 03 41 01 05 B6"))
 }
 
+pub fn nak_at(number: u8, place: usize) -> ToldAt {
+    (number, place, nak(number).1)
+}
+
 /// An SDCP request with a right length.
 pub fn packet(group: u8, unit: u8, words: &[u8]) -> Vec<u8> {
     let mut bytes = hex("03 0B 53 4F 4E 59");
@@ -131,6 +173,11 @@ pub fn ok(group: u8, unit: u8, words: &[u8]) -> Vec<u8> {
     let mut bytes = packet(group, unit, words);
     bytes[8] = 0x01;
     bytes
+}
+
+/// The NG for [`packet`], whatever its words are.
+pub fn ng(group: u8, unit: u8) -> Vec<u8> {
+    packet(group, unit, &[0xF0, 0x50])
 }
 
 /// A KJW frame: `C` or `E`, letters and parameters in one text.

@@ -78,22 +78,22 @@ abbrev told-vals : Outcome → List Val
 told-vals = laws.vals O.the-type O′.the-laws
 
 abbrev outcome-of : Held → Outcome
-outcome-of t = record { answer = t .answer; len = t .len }
+outcome-of t = record { answer = t .answer; place = t .place; len = t .len }
 
 -- what the relation of the callee's result says of its fields
 box-is : (t : Held) (u : Val) → Is T.the-row t (u ∷ []) → Is B.the-row (t .after) (box-vals (t .after))
 box-is t u is = laws.owed T.the-type T′.the-laws t (u ∷ []) is .0
 
 told-is : (t : Held) (u : Val) → Is T.the-row t (u ∷ []) → Is O.the-row (outcome-of t) (told-vals (outcome-of t))
-told-is t u is = let owed = laws.owed T.the-type T′.the-laws t (u ∷ []) is in laws.owes O.the-type O′.the-laws (outcome-of t) (owed .1 .0, (owed .1 .1 .0, tt))
+told-is t u is = let owed = laws.owed T.the-type T′.the-laws t (u ∷ []) is in laws.owes O.the-type O′.the-laws (outcome-of t) (owed .1 .0, (owed .1 .1 .0, (owed .1 .1 .1 .0, tt)))
 
 not-done : (y : Bool) → T (not y) → y ≡ false
 not-done true z = absurd z
 not-done false z = refl
 
--- the code after the test: the answer and the length are handed out
+-- the code after the test: the answer, its place and the length are handed out
 abbrev last : Code
-last = seq (assign (place 0 []) (aggregate (copy (place 6 (field 1 ∷ [])) ∷ copy (place 6 (field 2 ∷ [])) ∷ []))) return
+last = seq (assign (place 0 []) (aggregate (copy (place 6 (field 1 ∷ [])) ∷ copy (place 6 (field 2 ∷ [])) ∷ copy (place 6 (field 3 ∷ [])) ∷ []))) return
 
 module _ {M : Type 1} (𝓤 : URA M) (H : Heap 𝓤) where
   -- locals, each at its place
@@ -177,7 +177,7 @@ module _ {M : Type 1} (𝓤 : URA M) (H : Heap 𝓤) (A : Atoms 𝓤) (W : Given
         ∷ filled 𝓤 H (behind 1 En) (holds t) (‵ (froom O′.mir l₀ 0) ∷ ‵ (fdies O′.mir l₀) ∷ [])) (prop (Wp 𝓤 H C Λ En last (atReturn 𝓤 H En Post)))
     ends t zs byte fits box told e l =
         exec ! C Λ En last (atRet En Post) $
-        assigns ! (agg ! (and-then ! (load ! (from ! (fld ! refl (stop !))) (look-in ! 15 (sub ! 1 refl (whole !)))) (and-then ! (load ! (from ! (fld ! refl (stop !))) (look-in ! 15 (sub ! 2 refl (whole !)))) (no-more !)))) (from ! (stop !)) (init ! 27 refl (laws.lawful O.the-type O′.the-laws 𝓤 H A W .typed (outcome-of t) _ told .0)) $
+        assigns ! (agg ! (and-then ! (load ! (from ! (fld ! refl (stop !))) (look-in ! 15 (sub ! 1 refl (whole !)))) (and-then ! (load ! (from ! (fld ! refl (stop !))) (look-in ! 15 (sub ! 2 refl (whole !)))) (and-then ! (load ! (from ! (fld ! refl (stop !))) (look-in ! 15 (sub ! 3 refl (whole !)))) (no-more !))))) (from ! (stop !)) (init ! 27 refl (laws.lawful O.the-type O′.the-laws 𝓤 H A W .typed (outcome-of t) _ told .0)) $
         owned ! B.the-row (Is B.the-row) (laws.makes B.the-type B′.the-plain 𝓤 H A) (t .after) (box-vals (t .after)) box $
         move ! (1 ∷ 0 ∷ 2 ∷ 3 ∷ 4 ∷ []) $ closes ! tt B.the-row (t .after) (box-vals (t .after)) b o $
         returns ! (look ! 26 refl) $ forget ! 6 refl $ forget ! 8 refl $ forget ! 10 refl $ forget ! 12 refl $ forget ! 14 refl $ forget ! 16 refl $ forget ! 18 refl $ forget ! 20 refl $ forget ! 22 refl $ forget ! 24 refl $ forget ! 26 refl $
@@ -214,7 +214,7 @@ module _ {M : Type 1} (𝓤 : URA M) (H : Heap 𝓤) (A : Atoms 𝓤) (W : Given
         rewrite ! 14 (λ (us : List Val). ‵ (fat fullShare T′.mir l₆ 0 (only us))) (laws.tells T.the-type T′.the-laws t (u ∷ []) is) refl $
         move ! (2 ∷ 3 ∷ 4 ∷ 5 ∷ 0 ∷ 28 ∷ 1 ∷ []) $
         -- what was done is stored; what was not has the box that lies there
-        assigns ! (of-opd ! (load ! (from ! (fld ! refl (stop !))) (look-in ! 15 (sub ! 3 refl (whole !))))) (from ! (stop !)) (init ! 7 refl (tt, tt)) $
+        assigns ! (of-opd ! (load ! (from ! (fld ! refl (stop !))) (look-in ! 15 (sub ! 4 refl (whole !))))) (from ! (stop !)) (init ! 7 refl (tt, tt)) $
         let meet = ends C Λ l₀ l₁ l₂ l₃ l₄ l₅ l₆ l₇ l₈ l₉ l₁₀ t (zs .1 .1 .1 .1 .0) (gw .1) (gn .1) (box-is t u is) (told-is t u is) e l in
         first ! $ branches ! (load ! (from ! (stop !)) (look ! 7 refl))
         (λ _. assigns-last ! (of-opd ! (load ! (from ! (fld ! refl (stop !))) (look-in ! 15 (sub ! 0 refl (whole !))))) (from ! (hop ! (look ! 25 refl) (stop !))) (store-raw ! 0 refl (laws.lawful B.the-type B′.the-laws 𝓤 H A W .typed (t .after) _ (box-is t u is) .0)) $ meet)

@@ -32,21 +32,24 @@ front-length-requires c κs = search needs
 answer-number-requires : tie.Need-answer-number-requires
 answer-number-requires c κs = search needs
 
+answer-place-requires : tie.Need-answer-place-requires
+answer-place-requires c κs = search needs
+
 slice-aggregate-put-reply : tie.Need-slice-aggregate-put-reply
 slice-aggregate-put-reply c =
-    let a = c .before .before .before .before .before .before .args in
-    let f = c .before .before .before .front-length .ensures in
+    let a = c .before .before .before .before .before .before .before .args in
+    let f = c .before .before .before .before .front-length .ensures in
     f ∙ sym (ap length (front (a .len) (a .area .now) f))
 
 sub-put-reply : tie.Need-sub-put-reply
 sub-put-reply c =
-    let a = c .before .before .before .before .before .before .args in
-    fits (a .len) (a .area .now) (c .before .before .before .front-length .ensures)
+    let a = c .before .before .before .before .before .before .before .args in
+    fits (a .len) (a .area .now) (c .before .before .before .before .front-length .ensures)
 
 part-put-reply-start : tie.Need-part-put-reply-start
 part-put-reply-start c =
-    let a = c .before .before .before .before .before .before .args in
-    fits (a .len) (a .area .now) (c .before .before .before .front-length .ensures)
+    let a = c .before .before .before .before .before .before .before .args in
+    fits (a .len) (a .area .now) (c .before .before .before .before .front-length .ensures)
 
 part-put-reply-end : tie.Need-part-put-reply-end
 part-put-reply-end c = search needs
@@ -63,14 +66,15 @@ same-length c = search needs
 returns : tie.Need-returns
 unfolding writes replied
 returns c =
-    let a = c .before .before .before .before .before .before .before .before .before .before .before .before .before .before .args in
+    let e = c .before .before .ended .ensures in
+    let p = c .before .before .before .before .before .before in
+    let place = p .before .before .before in
+    let number = place .before .before in
+    let front-is = number .before .front-length .ensures in
+    let a = number .before .before .before .before .args in
     let s = a .area .now in
     let k = a .len in
-    let p = c .before .before .before .before .before .before .put-reply in
-    let e = c .before .before .ended .ensures in
-    let f = c .before .before .before .before .before .before .before .before .before .before .before .front-length .ensures in
-    let n = c .before .before .before .before .before .before .before .before .before .answer-number .ensures in
-    let text = rw (n, front k s f, rest k s f) at (p .ensures) in
+    let text = rw (number .answer-number .ensures, place .answer-place .ensures, front k s front-is, rest k s front-is) at (p .put-reply .ensures) in
     record { box-is = e .box-is; text-is = puts-then text (e .text-is) }
 
 pub say-reply-spec : {M : Type 1} → statement M
@@ -79,6 +83,7 @@ say-reply-spec =
     (tie.spec
     front-length-requires
     answer-number-requires
+    answer-place-requires
     slice-aggregate-put-reply
     sub-put-reply
     part-put-reply-start

@@ -38,9 +38,6 @@ read-advert-requires c κs = search needs
 answer-number-requires : tie.Need-answer-number-requires
 answer-number-requires c κs = search needs
 
-slice-aggregate-say-answer : tie.Need-slice-aggregate-say-answer
-slice-aggregate-say-answer c = search needs
-
 say-answer-requires : tie.Need-say-answer-requires
 say-answer-requires c κs = search needs
 
@@ -49,11 +46,11 @@ same-length c = search needs
 
 returns : tie.Need-returns
 returns c =
-    let a = c .before .before .before .before .before .before .before .before .before .before .before .before .before .args in
+    let a = c .before .before .before .before .before .before .before .before .before .before .before .before .args in
     let r = c .before .before .say-answer in
-    let n = c .before .before .before .before .before .before .answer-number in
-    let read = c .before .before .before .before .before .before .before .read-advert .ensures ∙ ap readOf (front (c .before .before .before .before .before .before .before .before .before .bytes-at .ensures)) in
-    let e = read-refused (a .b) (c .before .before .before .before .before .before .before .read-advert .result) (λ z. c .before .before .before .before .before .if1 .taken (n .ensures ∙ z)) ∙ ap (λ x. writes (a .b) (readText x)) read in
+    let n = c .before .before .before .before .before .answer-number in
+    let read = c .before .before .before .before .before .before .read-advert .ensures ∙ ap readOf (front (c .before .before .before .before .before .before .before .before .bytes-at .ensures)) in
+    let e = read-refused (a .b) (c .before .before .before .before .before .before .read-advert .result) (λ z. c .before .before .before .before .if1 .taken (n .ensures ∙ z)) ∙ ap (λ x. writes (a .b) (readText x)) read in
     subst (λ (o : Effect). Answers o (r .result) (a .out .now) (r .last .1 .0)) e (r .ensures)
 
 put-advert-requires : tie.Need-put-advert-requires
@@ -85,7 +82,6 @@ answer-advert-spec =
     slice-aggregate-read-advert
     read-advert-requires
     answer-number-requires
-    slice-aggregate-say-answer
     say-answer-requires
     same-length
     returns

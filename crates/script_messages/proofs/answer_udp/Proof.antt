@@ -27,9 +27,6 @@ slice-aggregate-take-2 c = search needs
 take-requires : tie.Need-take-requires
 take-requires c κs = search needs
 
-slice-aggregate-say-answer : tie.Need-slice-aggregate-say-answer
-slice-aggregate-say-answer c = search needs
-
 say-answer-requires : tie.Need-say-answer-requires
 say-answer-requires c κs = search needs
 
@@ -38,10 +35,10 @@ same-length c = search needs
 
 returns : tie.Need-returns
 returns c =
-    let a = c .before .before .before .before .before .before .before .before .before .before .before .before .before .before .args in
+    let a = c .before .before .before .before .before .before .before .before .before .before .before .before .before .args in
     let r = c .before .before .say-answer in
-    let t = c .before .before .before .before .before .before .before .take in
-    let e = spread-text (a .b) 0 _ [] (t .result) (t .ensures .0) ∙ ap (λ (m : List ℕ). spread (step (a .b) (udp m))) (front (c .before .before .before .before .before .before .before .before .before .before .bytes-at .ensures)) in
+    let t = c .before .before .before .before .before .before .take in
+    let e = spread-text (a .b) 0 _ [] (t .result) (t .ensures .0) ∙ ap (λ (m : List ℕ). spread (step (a .b) (udp m))) (front (c .before .before .before .before .before .before .before .before .before .bytes-at .ensures)) in
     subst (λ (o : Effect). Answers o (r .result) (a .out .now) (r .last .1 .0)) e (r .ensures)
 
 pub answer-udp-spec : {M : Type 1} → statement M
@@ -53,7 +50,6 @@ answer-udp-spec =
     slice-aggregate-take
     slice-aggregate-take-2
     take-requires
-    slice-aggregate-say-answer
     say-answer-requires
     same-length
     returns)

@@ -1,7 +1,8 @@
--- `answer_box` configures a box by the bytes that the line writes.
+-- `answer_box` configures a box by the bytes that the line writes, and puts the answer's number.
 use mathlib.Core.Path.{subst, ap, _∙_}
 use Rattle.configure.specs.Configure.{configured}
-use Rattle.script_answers.specs.Answers.{Answers, Effect}
+use Rattle.script_text.proofs.Puts.{puts-then}
+use Rattle.script_answers.specs.Answers.{Answers, Effect, writes}
 use Rattle.script_panels.specs.Panels.{boxed}
 use Rattle.script_write.proofs.Lent.{front, front-length, front-fits}
 use borrow.Author.Needs.{needs}
@@ -20,22 +21,35 @@ slice-aggregate-configure c = front-length (c .before .configuration-in .ensures
 configure-requires : tie.Need-configure-requires
 configure-requires c κs = search needs
 
-slice-aggregate-say-answer : tie.Need-slice-aggregate-say-answer
-slice-aggregate-say-answer c = search needs
+slice-aggregate-put-number-text : tie.Need-slice-aggregate-put-number-text
+slice-aggregate-put-number-text c = search needs
 
-say-answer-requires : tie.Need-say-answer-requires
-say-answer-requires c κs = search needs
+answer-number-requires : tie.Need-answer-number-requires
+answer-number-requires c κs = search needs
+
+cast-put-number-text : tie.Need-cast-put-number-text
+cast-put-number-text c = search needs
+
+put-number-text-requires : tie.Need-put-number-text-requires
+put-number-text-requires c κs = search needs
+
+ended-requires : tie.Need-ended-requires
+ended-requires c κs = search needs
 
 same-length : tie.Need-same-length
 same-length c = search needs
 
 returns : tie.Need-returns
-unfolding boxed
+unfolding boxed writes
 returns c =
-    let a = c .before .before .before .before .before .before .before .before .before .before .before .before .args in
-    let r = c .before .before .say-answer in
-    let e = ap boxed (c .before .before .before .before .before .before .configure .ensures ∙ ap configured (front (c .before .before .before .before .before .before .before .before .configuration-in .ensures))) in
-    subst (λ (o : Effect). Answers o (r .result) (a .out .now) (r .last .1 .0)) e (r .ensures)
+    let r = c .before .before .ended in
+    let p = c .before .before .before .before .before .before in
+    let made = p .before .before .before .before .before in
+    let read = made .before .before in
+    let a = read .before .before .before .before .args in
+    let text = rw (p .before .answer-number .ensures) at (p .put-number-text .ensures) in
+    let e = ap boxed (made .configure .ensures ∙ ap configured (front (read .configuration-in .ensures))) in
+    subst (λ (o : Effect). Answers o (r .result) (a .out .now) (r .last .1 .0)) e (record { box-is = r .ensures .box-is; text-is = puts-then text (r .ensures .text-is) })
 
 pub answer-box-spec : {M : Type 1} → statement M
 answer-box-spec =
@@ -45,7 +59,10 @@ answer-box-spec =
     array-share-prefix-bytes
     slice-aggregate-configure
     configure-requires
-    slice-aggregate-say-answer
-    say-answer-requires
+    slice-aggregate-put-number-text
+    answer-number-requires
+    cast-put-number-text
+    put-number-text-requires
+    ended-requires
     same-length
     returns)

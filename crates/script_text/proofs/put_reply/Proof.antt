@@ -5,11 +5,8 @@ use Rattle.script_text.proofs.Puts.{puts-then}
 use Rattle.script_text.proofs.put_reply.Statement.{statement}
 use Rattle.script_text.proofs.put_reply.Tie as tie
 
-slice-aggregate-put-number-text : tie.Need-slice-aggregate-put-number-text
-slice-aggregate-put-number-text c = search needs
-
-put-number-text-requires : tie.Need-put-number-text-requires
-put-number-text-requires c κs = search needs
+put-placed-requires : tie.Need-put-placed-requires
+put-placed-requires c κs = search needs
 
 slice-aggregate-put-bytes-text : tie.Need-slice-aggregate-put-bytes-text
 slice-aggregate-put-bytes-text c = search needs
@@ -28,14 +25,13 @@ unfolding replyText
 returns c =
     let b = c .before .before .before .before .before .before in
     let a = b .before .before .before .before .before in
-    puts-then (puts-then (a .put-number-text .ensures) (b .put-bytes-text .ensures)) (c .before .before .put-spoiled .ensures)
+    puts-then (puts-then (a .put-placed .ensures) (b .put-bytes-text .ensures)) (c .before .before .put-spoiled .ensures)
 
 pub put-reply-spec : {M : Type 1} → statement M
 put-reply-spec =
     tie.close
     (tie.spec
-    slice-aggregate-put-number-text
-    put-number-text-requires
+    put-placed-requires
     slice-aggregate-put-bytes-text
     put-bytes-text-requires
     put-spoiled-requires

@@ -33,23 +33,23 @@ hear-requires c κs = search needs
 enum-known-ask : tie.Need-enum-known-ask
 enum-known-ask c = search needs
 
-enum-told : tie.Need-enum-told
-enum-told c = search needs
+enum-known-ask-2 : tie.Need-enum-known-ask-2
+enum-known-ask-2 c = search needs
 
 slice-aggregate-put-packet : tie.Need-slice-aggregate-put-packet
 slice-aggregate-put-packet c = search needs
 
 put-packet-requires : tie.Need-put-packet-requires
-put-packet-requires c κs = (long (c .before .before .before .before .before .before .before .before .args .m .now) (c .before .before .before .before .hear .result) _ (c .before .before .before .before .hear .ensures) (c .before .before .enum-told .given .1), omega arith, c .before .before .before .before .before .if1 .left)
+put-packet-requires c κs = (long (c .before .before .before .before .before .before .before .before .before .args .m .now) (c .before .before .before .before .before .hear .result) _ (c .before .before .before .before .before .hear .ensures) (c .before .before .before .ask2 .given .1), omega arith, c .before .before .before .before .before .before .if1 .left)
 
-enum-told-2 : tie.Need-enum-told-2
-enum-told-2 c = search needs
+enum-told : tie.Need-enum-told
+enum-told c = search needs
 
 put-ok-requires : tie.Need-put-ok-requires
-put-ok-requires c κs = (long (c .before .before .before .before .before .before .before .args .m .now) (c .before .before .before .hear .result) _ (c .before .before .before .hear .ensures) (c .before .enum-told2 .given .1), c .before .before .before .before .if1 .left)
+put-ok-requires c κs = (long (c .before .before .before .before .before .before .before .args .m .now) (c .before .before .before .hear .result) _ (c .before .before .before .hear .ensures) (c .before .enum-told .given .1), c .before .before .before .before .if1 .left)
 
-enum-known-ask-2 : tie.Need-enum-known-ask-2
-enum-known-ask-2 c = search needs
+enum-known-ask-3 : tie.Need-enum-known-ask-3
+enum-known-ask-3 c = search needs
 
 obey-requires : tie.Need-obey-requires
 obey-requires c κs = search needs
@@ -58,7 +58,7 @@ tell-requires : tie.Need-tell-requires
 tell-requires c κs = search needs
 
 put-ok-requires-2 : tie.Need-put-ok-requires-2
-put-ok-requires-2 c κs = (long (c .before .before .before .before .before .before .before .before .before .before .args .m .now) (c .before .before .before .before .before .before .hear .result) _ (c .before .before .before .before .before .before .hear .ensures) (c .before .before .before .before .ask2 .given .1), c .before .before .before .before .before .before .before .if1 .left)
+put-ok-requires-2 c κs = (long (c .before .before .before .before .before .before .before .before .before .before .args .m .now) (c .before .before .before .before .before .before .hear .result) _ (c .before .before .before .before .before .before .hear .ensures) (c .before .before .before .before .ask3 .given .1), c .before .before .before .before .before .before .before .if1 .left)
 
 returns-2 : tie.Need-returns-2
 unfolding turned
@@ -72,8 +72,8 @@ same-length c = search needs
 returns-3 : tie.Need-returns-3
 unfolding turned bytesOf
 returns-3 c =
-    let a = c .before .before .before .before .before .before .before .before .before .before .before .args in
-    takes-turn (turnOf (a .m .now)) (a .w) (a .area .now) _ _ _ _ _ (c .before .before .before .before .before .before .before .before .if1 .left) (asked (a .m .now) (a .w) (c .before .before .before .before .before .before .before .hear .result) _ (c .before .before .before .before .before .before .before .hear .ensures) (c .before .before .before .before .before .enum-told .given .1)) refl refl (c .before .before .put-packet .ensures)
+    let a = c .before .before .before .before .before .before .before .before .before .before .before .before .args in
+    takes-turn (turnOf (a .m .now)) (a .w) (a .area .now) _ _ _ _ _ (c .before .before .before .before .before .before .before .before .before .if1 .left) (asked (a .m .now) (a .w) (c .before .before .before .before .before .before .before .before .hear .result) _ (c .before .before .before .before .before .before .before .before .hear .ensures) (c .before .before .before .before .before .before .ask2 .given .1)) refl refl (c .before .before .put-packet .ensures)
 
 same-length-2 : tie.Need-same-length-2
 same-length-2 c = search needs
@@ -82,7 +82,7 @@ returns-4 : tie.Need-returns-4
 unfolding turned
 returns-4 c =
     let a = c .before .before .before .before .before .before .before .before .before .before .args in
-    takes-turn (turnOf (a .m .now)) (a .w) (a .area .now) _ _ _ _ _ (c .before .before .before .before .before .before .before .if1 .left) (asked (a .m .now) (a .w) (c .before .before .before .before .before .before .hear .result) _ (c .before .before .before .before .before .before .hear .ensures) (c .before .before .before .before .enum-told2 .given .1)) refl refl (c .before .before .put-ok .ensures)
+    takes-turn (turnOf (a .m .now)) (a .w) (a .area .now) _ _ _ _ _ (c .before .before .before .before .before .before .before .if1 .left) (asked (a .m .now) (a .w) (c .before .before .before .before .before .before .hear .result) _ (c .before .before .before .before .before .before .hear .ensures) (c .before .before .before .before .enum-told .given .1)) refl refl (c .before .before .put-ok .ensures)
 
 same-length-3 : tie.Need-same-length-3
 same-length-3 c = search needs
@@ -91,7 +91,7 @@ returns-5 : tie.Need-returns-5
 unfolding turned
 returns-5 c =
     let a = c .before .before .before .before .before .before .before .before .before .before .before .before .before .args in
-    takes-turn (turnOf (a .m .now)) (a .w) (a .area .now) _ _ _ _ _ (c .before .before .before .before .before .before .before .before .before .before .if1 .left) (asked (a .m .now) (a .w) (c .before .before .before .before .before .before .before .before .before .hear .result) _ (c .before .before .before .before .before .before .before .before .before .hear .ensures) (c .before .before .before .before .before .before .before .ask2 .given .1)) (c .before .before .before .before .before .obey .ensures) refl (subst (λ (t : Says). Sent (bytesOf (a .m .now) (Ok t)) (c .before .before .put-ok2 .result) (a .area .now) (c .before .before .put-ok2 .last .1 .1 .0)) (c .before .before .before .before .tell .ensures) (c .before .before .put-ok2 .ensures))
+    takes-turn (turnOf (a .m .now)) (a .w) (a .area .now) _ _ _ _ _ (c .before .before .before .before .before .before .before .before .before .before .if1 .left) (asked (a .m .now) (a .w) (c .before .before .before .before .before .before .before .before .before .hear .result) _ (c .before .before .before .before .before .before .before .before .before .hear .ensures) (c .before .before .before .before .before .before .before .ask3 .given .1)) (c .before .before .before .before .before .obey .ensures) refl (subst (λ (t : Says). Sent (bytesOf (a .m .now) (Ok t)) (c .before .before .put-ok2 .result) (a .area .now) (c .before .before .put-ok2 .last .1 .1 .0)) (c .before .before .before .before .tell .ensures) (c .before .before .put-ok2 .ensures))
 
 pub take-packet-spec : {M : Type 1} → statement M
 take-packet-spec =
@@ -100,12 +100,12 @@ take-packet-spec =
     returns
     hear-requires
     enum-known-ask
-    enum-told
+    enum-known-ask-2
     slice-aggregate-put-packet
     put-packet-requires
-    enum-told-2
+    enum-told
     put-ok-requires
-    enum-known-ask-2
+    enum-known-ask-3
     obey-requires
     tell-requires
     put-ok-requires-2

@@ -31,14 +31,14 @@ returns c =
 enum-known-h : tie.Need-enum-known-h
 enum-known-h c = search needs
 
+enum-known-h-2 : tie.Need-enum-known-h-2
+enum-known-h-2 c = search needs
+
 enum-told : tie.Need-enum-told
 enum-told c = search needs
 
 enum-told-2 : tie.Need-enum-told-2
 enum-told-2 c = search needs
-
-enum-told-3 : tie.Need-enum-told-3
-enum-told-3 c = search needs
 
 returns-2 : tie.Need-returns-2
 returns-2 c =
@@ -48,21 +48,21 @@ returns-2 c =
 
 returns-3 : tie.Need-returns-3
 returns-3 c =
-    let q = c .before .before .before .asks-for-status in
-    let h = c .before .before .before .before .hear in
-    asked (c .before .before .before .before .before .before .args .m .now) (q .result) (h .result) _ (q .ensures) (not-false (q .result) (c .before .before .if1 .left)) (h .ensures) (c .enum-told .given .1)
+    let q = c .before .before .before .before .asks-for-status in
+    let h = c .before .before .before .before .before .hear in
+    asked (c .before .before .before .before .before .before .before .args .m .now) (q .result) (h .result) _ (q .ensures) (not-false (q .result) (c .before .before .before .if1 .left)) (h .ensures) (c .before .h2 .given .1)
 
 returns-4 : tie.Need-returns-4
 returns-4 c =
     let q = c .before .before .before .asks-for-status in
     let h = c .before .before .before .before .hear in
-    asked (c .before .before .before .before .before .before .args .m .now) (q .result) (h .result) _ (q .ensures) (not-false (q .result) (c .before .before .if1 .left)) (h .ensures) (c .enum-told2 .given .1)
+    asked (c .before .before .before .before .before .before .args .m .now) (q .result) (h .result) _ (q .ensures) (not-false (q .result) (c .before .before .if1 .left)) (h .ensures) (c .enum-told .given .1)
 
 returns-5 : tie.Need-returns-5
 returns-5 c =
     let q = c .before .before .before .asks-for-status in
     let h = c .before .before .before .before .hear in
-    asked (c .before .before .before .before .before .before .args .m .now) (q .result) (h .result) _ (q .ensures) (not-false (q .result) (c .before .before .if1 .left)) (h .ensures) (c .enum-told3 .given .1)
+    asked (c .before .before .before .before .before .before .args .m .now) (q .result) (h .result) _ (q .ensures) (not-false (q .result) (c .before .before .if1 .left)) (h .ensures) (c .enum-told2 .given .1)
 
 pub hear-cast-spec : {M : Type 1} → statement M
 hear-cast-spec =
@@ -72,9 +72,9 @@ hear-cast-spec =
     asks-for-status-requires
     returns
     enum-known-h
+    enum-known-h-2
     enum-told
     enum-told-2
-    enum-told-3
     returns-2
     returns-3
     returns-4

@@ -30,6 +30,12 @@ enum-told-8 c = search needs
 enum-told-9 : tie.Need-enum-told-9
 enum-told-9 c = search needs
 
+enum-known-a : tie.Need-enum-known-a
+enum-known-a c = search needs
+
+part-number-requires : tie.Need-part-number-requires
+part-number-requires c κs = search needs
+
 returns : tie.Need-returns
 returns c = search needs
 
@@ -57,6 +63,9 @@ returns-8 c = search needs
 returns-9 : tie.Need-returns-9
 returns-9 c = search needs
 
+returns-10 : tie.Need-returns-10
+returns-10 c = search needs
+
 pub answer-number-spec : {M : Type 1} → statement M
 answer-number-spec =
     tie.close
@@ -70,6 +79,8 @@ answer-number-spec =
     enum-told-7
     enum-told-8
     enum-told-9
+    enum-known-a
+    part-number-requires
     returns
     returns-2
     returns-3
@@ -78,4 +89,5 @@ answer-number-spec =
     returns-6
     returns-7
     returns-8
-    returns-9)
+    returns-9
+    returns-10)

@@ -4,12 +4,14 @@ use mathlib.Core.Bool.{Bool, true, false}
 use mathlib.Core.List.{List, [], map}
 use Prim.Native.Nat.{ℕ}
 use lib.Dec.{eqb}
-use borrow.Author.Tests.{not-true, not-false}
+use borrow.Author.Tests.{not-true, not-false, ne-eqb}
+use native.Mathlib.Omega.{arith}
 use borrow.Author.Needs.{needs}
 use Rattle.panels.specs.declared.Panel.{Panel}
 use Rattle.panels.specs.declared.DisplayBox.{DisplayBox}
-use Rattle.terms.specs.Answers.{numberOf}
+use Rattle.terms.specs.Answers.{partNumber, numberOf}
 use Rattle.terms.specs.declared.Answer.{Answer}
+use Rattle.terms.proofs.Answers.{part-late}
 use Rattle.steps.specs.Messages.{udp, names}
 use Rattle.steps.specs.Addressing.{anyCalled}
 use Rattle.steps.specs.Step.{withPanels, toNobody, nothing, step}
@@ -68,14 +70,17 @@ refused-requires-2 c κs =
     let a = c .before .before .before .before .before .before .before .before .before .args in
     cast-undone (a .m .now) _ (sym (c .before .before .before .hear-cast .ensures) ∙ c .before .answer .given .1)
 
-enum-told : tie.Need-enum-told
-enum-told c = search needs
+enum-known-part : tie.Need-enum-known-part
+enum-known-part c = search needs
 
 refused-requires-3 : tie.Need-refused-requires-3
-refused-requires-3 c κs = search needs
+refused-requires-3 c κs =
+    let p = c .before .part .given .0 .0 in
+    let n = part-late p in
+    ne-eqb (partNumber p) 0 (λ z. omega (arith, n, z))
 
-enum-told-2 : tie.Need-enum-told-2
-enum-told-2 c = search needs
+enum-told : tie.Need-enum-told
+enum-told c = search needs
 
 refused-requires-4 : tie.Need-refused-requires-4
 refused-requires-4 c κs = search needs
@@ -100,11 +105,11 @@ returns-2 c =
 
 returns-3 : tie.Need-returns-3
 returns-3 c =
-    let a = c .before .before .before .before .before .before .before .before .before .args in
-    let j = c .before .before .before .before .before .before .before .judge in
-    let q = c .before .before .before .before .before .any-called in
-    let n = some (a .b) (a .m .now) (j .result) (q .result) (j .ensures) (q .ensures) (not-false (q .result) (c .before .before .before .before .if1 .left)) in
-    rests (a .b) (a .m .now) _ _ (idle (a .b) (a .m .now) _ n (sym (c .before .before .before .hear-cast .ensures) ∙ c .before .enum-told .given .1) broken) (c .refused3 .ensures)
+    let a = c .before .before .before .before .before .before .before .before .before .before .args in
+    let j = c .before .before .before .before .before .before .before .before .judge in
+    let q = c .before .before .before .before .before .before .any-called in
+    let n = some (a .b) (a .m .now) (j .result) (q .result) (j .ensures) (q .ensures) (not-false (q .result) (c .before .before .before .before .before .if1 .left)) in
+    rests (a .b) (a .m .now) _ _ (idle (a .b) (a .m .now) _ n (sym (c .before .before .before .before .hear-cast .ensures) ∙ c .before .before .part .given .1) (broken (c .before .before .part .given .0 .0))) (c .refused3 .ensures)
 
 returns-4 : tie.Need-returns-4
 returns-4 c =
@@ -112,7 +117,7 @@ returns-4 c =
     let j = c .before .before .before .before .before .before .before .judge in
     let q = c .before .before .before .before .before .any-called in
     let n = some (a .b) (a .m .now) (j .result) (q .result) (j .ensures) (q .ensures) (not-false (q .result) (c .before .before .before .before .if1 .left)) in
-    rests (a .b) (a .m .now) _ _ (idle (a .b) (a .m .now) _ n (sym (c .before .before .before .hear-cast .ensures) ∙ c .before .enum-told2 .given .1) strange) (c .refused4 .ensures)
+    rests (a .b) (a .m .now) _ _ (idle (a .b) (a .m .now) _ n (sym (c .before .before .before .hear-cast .ensures) ∙ c .before .enum-told .given .1) strange) (c .refused4 .ensures)
 
 returns-5 : tie.Need-returns-5
 returns-5 c =
@@ -134,9 +139,9 @@ take-udp-spec =
     hear-cast-requires
     enum-known-answer
     refused-requires-2
-    enum-told
+    enum-known-part
     refused-requires-3
-    enum-told-2
+    enum-told
     refused-requires-4
     enum-known-o
     obey-all-requires

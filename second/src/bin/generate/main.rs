@@ -5,12 +5,14 @@
 //! - `generate sweep` writes the fixed script that walks every small range of document 01, streams
 //!   in pieces (document 02, §1), every ending behind every kind of words (§2), every flip word
 //!   from every flip (§4), status asked by broadcast in every form (§5), the codes of the remote
-//!   control (§6), and buffers for the plain reader (§7).
+//!   control (§6), buffers for the plain reader (§7), and envelopes with each part wrong, and with
+//!   every two (§8).
 //!
 //! The generator knows what the documents accept, so that most of its messages get past the first
 //! checks; it does not know, and does not use, what the answers are.
 
 mod buffers;
+mod envelopes;
 mod make;
 mod random;
 mod rng;
@@ -84,15 +86,36 @@ mod tests {
         answers
     }
 
-    /// Which ways in got which answer numbers.
+    /// The word behind these in a line.
+    fn word_behind<'a>(words: &str, line: &'a str) -> Option<&'a str> {
+        line.strip_prefix(words)?.split(' ').next()
+    }
+
+    /// The order word, and each line that was written for it.
+    fn lines(answered: &[(String, String)]) -> impl Iterator<Item = (&str, &str)> {
+        answered.iter().flat_map(|(order, answer)| {
+            let word = order.split(' ').next().unwrap_or_default();
+            answer.lines().map(move |line| (word, line))
+        })
+    }
+
+    /// Which orders got which answer numbers.
     fn reached(answered: &[(String, String)]) -> BTreeSet<(&str, &str)> {
-        let lines = answered
-            .iter()
-            .flat_map(|(order, answer)| answer.lines().map(move |line| (order, line)));
-        lines
-            .filter_map(|(order, line)| {
-                let number = line.strip_prefix("answer ")?.get(..1)?;
-                Some((order.split(' ').next()?, number))
+        lines(answered)
+            .filter_map(|(word, line)| {
+                let number = word_behind("answer ", line).or_else(|| word_behind("box ", line))?;
+                Some((word, number))
+            })
+            .collect()
+    }
+
+    /// Which orders got which numbers with which places (§8).
+    fn places(answered: &[(String, String)]) -> BTreeSet<(&str, u8, usize)> {
+        lines(answered)
+            .filter_map(|(word, line)| {
+                let (number, told) = line.strip_prefix("answer ")?.split_once(" at ")?;
+                let place = word_behind("", told)?.parse();
+                Some((word, number.parse().unwrap(), place.unwrap()))
             })
             .collect()
     }
@@ -131,21 +154,35 @@ mod tests {
     /// Every answer number that the documents have for each way in.
     fn every_answer() -> BTreeSet<(&'static str, &'static str)> {
         let numbers = [
-            ("rs232", "0123456"),
-            ("tcp", "0123456"),
-            // What a receiver hands out has 13 bytes at least.
-            ("piece", "012456"),
-            ("udp", "034568"),
-            ("kjw", "012346"),
-            ("advert", "0345"),
-            ("write", "01345"),
+            ("box", "0 7"),
+            ("rs232", "0 1 2 3 4 6 13 14"),
+            ("tcp", "0 1 2 3 4 6 9 10 11 12"),
+            // What a receiver hands out has 13 bytes at least, and as many as it says, or says over
+            // 499.
+            ("piece", "0 1 2 4 6 9 10 11"),
+            ("udp", "0 3 4 6 8 9 10 11 12"),
+            ("kjw", "0 1 2 3 4 6"),
+            ("advert", "0 3 4 5"),
+            ("write", "0 1 3 4 5"),
         ];
         numbers
             .into_iter()
-            .flat_map(|(way, numbers)| {
-                (0..numbers.len()).map(move |place| (way, &numbers[place..=place]))
-            })
+            .flat_map(|(way, numbers)| numbers.split(' ').map(move |number| (way, number)))
             .collect()
+    }
+
+    /// Every place that §8 has for each way in, but for the checksum's.
+    fn every_place() -> BTreeSet<(&'static str, u8, usize)> {
+        let by_tcp = [(9, 8), (10, 9), (11, 11), (12, 11)];
+        [
+            ("tcp", &by_tcp[..]),
+            ("udp", &by_tcp),
+            ("piece", &by_tcp[..3]),
+            ("rs232", &[(13, 1)]),
+        ]
+        .into_iter()
+        .flat_map(|(way, places)| places.iter().map(move |(number, at)| (way, *number, *at)))
+        .collect()
     }
 
     #[test]
@@ -186,8 +223,8 @@ mod tests {
         }
     }
 
-    /// The data of a packet by TCP or UDP whose length is right, and its answer's number.
-    fn data_and_number((order, answer): &(String, String)) -> Option<(Vec<u8>, &str)> {
+    /// The bytes of a packet by TCP or UDP that has a whole header.
+    fn packet_of(order: &str) -> Option<Vec<u8>> {
         let (way, digits) = order.rsplit_once(' ')?;
         if way != "udp" && !way.starts_with("tcp ") {
             return None;
@@ -196,11 +233,20 @@ mod tests {
             .step_by(2)
             .map(|place| u8::from_str_radix(digits.get(place..place + 2)?, 16).ok())
             .collect();
-        let bytes = bytes?;
-        let data = bytes.get(13..)?.to_vec();
-        let length = usize::from(u16::from_be_bytes([bytes[11], bytes[12]]));
-        let number = answer.strip_prefix("answer ")?.get(..1)?;
-        (data.len() == length).then_some((data, number))
+        bytes.filter(|bytes| bytes.len() >= 13)
+    }
+
+    /// The length that the header of a packet says.
+    fn said_length(bytes: &[u8]) -> usize {
+        usize::from(u16::from_be_bytes([bytes[11], bytes[12]]))
+    }
+
+    /// The data of a packet by TCP or UDP whose length is right, and its answer's number.
+    fn data_and_number((order, answer): &(String, String)) -> Option<(Vec<u8>, &str)> {
+        let bytes = packet_of(order)?;
+        let data = bytes[13..].to_vec();
+        let number = word_behind("answer ", answer)?;
+        (data.len() == said_length(&bytes)).then_some((data, number))
     }
 
     /// The bytes behind the last that is no space, tab, 00h or 01h.
@@ -281,7 +327,9 @@ mod tests {
         assert!(count(&asked, "8") >= 50);
         assert!(count(&words::QUESTIONS, "8") >= 50);
         assert!(count(&words::NO_QUESTIONS, "6") >= 20);
-        assert!(count(&["STATget "], "5") >= 5);
+        // Those with a wrong part of the envelope, but for the length: it is right here, or over 499.
+        let wrong = ["9", "10", "11"].map(|number| count(&["STATget "], number));
+        assert!(wrong.iter().sum::<usize>() >= 5, "{wrong:?}");
         assert!(count(&["STATget "], "4") >= 20);
         assert_eq!(count(&["STATget "], "0") + count(&["STATget "], "6"), 0);
     }
@@ -445,6 +493,62 @@ mod tests {
             for ending in words::GOOD_ENDINGS.iter().chain(&words::BAD_ENDINGS) {
                 let data = [text.as_bytes(), ending].concat();
                 assert!(told.contains(&data), "{text} {ending:?}");
+            }
+        }
+    }
+
+    // A random script has each part with each way in, and checksums at many places.
+    #[test]
+    fn a_random_script_has_every_part_of_the_envelope() {
+        let answered = answered(&random::script(3, 20_000));
+        let (checksums, others): (BTreeSet<_>, BTreeSet<_>) = places(&answered)
+            .into_iter()
+            .partition(|(_, number, _)| *number == 14);
+        assert_eq!(others, every_place());
+        let lasts: BTreeSet<usize> = checksums.iter().map(|(_, _, place)| *place).collect();
+        assert!(lasts.len() >= 6, "{lasts:?}");
+    }
+
+    #[test]
+    fn the_sweep_has_every_part_of_the_envelope() {
+        let answered = answered(&sweep::script());
+        // A checksum stands at the end of 6 to 258 bytes.
+        let checksums = (5..=257).map(|place| ("rs232", 14, place));
+        let expected: BTreeSet<_> = every_place().into_iter().chain(checksums).collect();
+        assert_eq!(places(&answered), expected);
+    }
+
+    // Request, item, length over 499, length not matching: every choice of them, each way in.
+    #[test]
+    fn the_sweep_has_every_choice_of_wrong_parts() {
+        let script = sweep::script();
+        let orders = String::from_utf8_lossy(&script);
+        let choices: BTreeSet<(&str, [u8; 2], [bool; 4])> = orders
+            .lines()
+            .filter_map(|order| {
+                let bytes = packet_of(order).filter(|bytes| bytes.starts_with(wire::FRONT))?;
+                let length = said_length(&bytes);
+                let wrong = [
+                    bytes[8] != 0x00,
+                    bytes[9..11] != [0xB0, 0x00],
+                    length > 499,
+                    length != bytes.len() - 13,
+                ];
+                Some((&order[..3], [bytes[6], bytes[7]], wrong))
+            })
+            .collect();
+        for (way, ids) in [
+            ("tcp", [0, 0]),
+            ("tcp", [1, 3]),
+            ("udp", [1, 255]),
+            ("udp", [255, 255]),
+        ] {
+            for choice in 0..16 {
+                let wrong = [1, 2, 4, 8].map(|part| choice & part != 0);
+                assert!(
+                    choices.contains(&(way, ids, wrong)),
+                    "{way} {ids:?} {wrong:?}"
+                );
             }
         }
     }

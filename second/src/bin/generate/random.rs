@@ -343,7 +343,10 @@ impl Console {
             }
             3 => {
                 message[1] = message[1].wrapping_add(rng.pick(&[1, 255, 2, 3, 128]));
-                close(message);
+                // A wrong count is told before the checksum, be that right or wrong (§8).
+                if !rng.once_in(3) {
+                    close(message);
+                }
             }
             4 => {
                 message[1] = rng.pick(&[0, 1, 2, 3, 255]);
@@ -540,8 +543,11 @@ impl Console {
                 message.extend(vec![b' '; 256]);
             }
             13 => {
-                message[8] = 0x01;
-                message[10] = 0x01;
+                // Some parts of the envelope at once: the first of them is told (§8).
+                message[8] = rng.pick(&[0x00, 0x00, 0x01]);
+                message[10] = rng.pick(&[0x00, 0x00, 0x01]);
+                message[11] = rng.pick(&[0x00, 0x01, 0x02]);
+                message[12] = message[12].wrapping_add(rng.pick(&[0, 1, 255]));
             }
             14 => {
                 let place = rng.below(message.len());

@@ -2,6 +2,7 @@
 //! what document 02 asks for besides.
 
 use crate::buffers;
+use crate::envelopes;
 use crate::make::{
     advert_of_000, close, frame, full_advert, hashes_behind, hex, packet, serial, zeros_before,
     Script, WriteWords, ADVERT_TEXTS,
@@ -22,14 +23,14 @@ pub const PANELS: usize = 5;
 pub const HOUSE: &str = "box W 1 2 W 1 3 W 2 1 K 0 0 K 0 0";
 
 /// More than the sweep has.
-pub const MOST_ORDERS: usize = 90_000;
+pub const MOST_ORDERS: usize = 100_000;
 
 /// A part of the sweep: its title, and what writes it.
 type Part = (&'static str, fn(&mut Script));
 
 pub fn script() -> Vec<u8> {
     let mut script = Script::of_at_most(MOST_ORDERS);
-    let parts: [Part; 35] = [
+    let parts: [Part; 41] = [
         ("before any box", before_any_box),
         ("boxes, good and bad", boxes),
         ("links and areas", links_and_areas),
@@ -39,8 +40,13 @@ pub fn script() -> Vec<u8> {
         ("RS-232C: 40h", white_balance_data),
         ("RS-232C: 61h and 6Eh", senses),
         ("RS-232C: the envelope", serial_envelope),
+        ("RS-232C: wrong parts of it", envelopes::serials),
+        ("RS-232C: every length", envelopes::serial_lengths),
         ("SDCP: every byte of the header", packet_header),
         ("SDCP: the lengths", packet_lengths),
+        ("SDCP: wrong parts of the envelope", envelopes::packets),
+        ("SDCP: every choice of wrong parts", envelopes::choices),
+        ("SDCP: data lengths", envelopes::data_lengths),
         ("SDCP: the ways of addressing", addressing),
         ("VMC: every setting with every value", settings),
         ("VMC: one flip, three words", flips),
@@ -52,6 +58,10 @@ pub fn script() -> Vec<u8> {
         ("off the wire: every cut", wire::cuts),
         ("off the wire: every byte of the header", wire::headers),
         ("off the wire: the lengths", wire::lengths),
+        (
+            "off the wire: overlong headers",
+            envelopes::overlong_headers,
+        ),
         ("off the wire: fronts that are none", wire::near_fronts),
         ("the plain reader: every count", buffers::counts),
         ("the plain reader: full lists", buffers::full_lists),

@@ -129,7 +129,7 @@ pub fn cut(rng: &mut Rng, waiting: usize) -> usize {
 }
 
 /// A piece that leaves a receiver empty, whatever it held.
-fn flush(script: &mut Script, link: u64) {
+pub fn flush(script: &mut Script, link: u64) {
     script.piece(link, 512, &[0; 512]);
 }
 
