@@ -4,7 +4,20 @@ use mathlib.Core.List.{List}
 use Prim.Native.Nat.{ℕ}
 use lib.ListN.{length}
 use Rattle.laws.specs.Bytes.{laid}
-use Rattle.setting_texts.specs.Names.{leadOf, wordOf}
+use Rattle.setting_texts.specs.Names.{leadOf, wordsOf, wordOf}
+use Rattle.setting_texts.specs.Rows.{textOf, rowOf, firstWord}
+
+pub row-text-one : (row : ℕ) (r r′ : List ℕ) → r ≡ rowOf row → r′ ≡ rowOf row → r ≡ r′
+row-text-one row r r′ p q = p ∙ sym q
+
+pub text-length-one : (row r r′ : ℕ) → r ≡ length (textOf row) → r′ ≡ length (textOf row) → r ≡ r′
+text-length-one row r r′ p q = p ∙ sym q
+
+pub first-word-one : (k r r′ : ℕ) → r ≡ firstWord k → r′ ≡ firstWord k → r ≡ r′
+first-word-one k r r′ p q = p ∙ sym q
+
+pub word-count-one : (k r r′ : ℕ) → r ≡ length (wordsOf k) → r′ ≡ length (wordsOf k) → r ≡ r′
+word-count-one k r r′ p q = p ∙ sym q
 
 pub lead-length-one : (k r r′ : ℕ) → r ≡ length (leadOf k) → r′ ≡ length (leadOf k) → r ≡ r′
 lead-length-one k r r′ p q = p ∙ sym q

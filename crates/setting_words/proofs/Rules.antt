@@ -1,10 +1,10 @@
 -- The rules by which a row of texts is met, each from one test computed over all rows.
-use Prim.Native.Nat.{ℕ, _+_, _-_, _*_, _<_, _≤_}
+use Prim.Native.Nat.{ℕ, _+_, _-_, _<_, _≤_}
 use mathlib.Core.Path.{_≡_, refl, sym, _∙_}
 use mathlib.Core.Bool.{Bool, true, false, cond, _&&_}
-use mathlib.Core.List.{List, [], _∷_, _++_, map}
-use lib.Dec.{eqb, leb, eqb→eq, leb→le}
-use lib.ListN.{length, getD, take, List·getD-map}
+use mathlib.Core.List.{List, [], _∷_, _++_}
+use lib.Dec.{eqb, leb, leb→le}
+use lib.ListN.{length, getD, take, replicate, List·getD-append, List·getD-eq-default}
 use Rattle.laws.specs.Bytes.{same, begins}
 use Rattle.laws.specs.Lists.{everyBelow}
 use borrow.Author.Tests.{ne-eqb, eqb-true}
@@ -12,26 +12,16 @@ use Rattle.laws.proofs.Conditions.{false-true, and-first, and-second}
 use Rattle.laws.proofs.Lists.{same-is}
 use Rattle.laws.proofs.Table.{below, sure}
 use Rattle.setting_texts.specs.Names.{names, nameOf, wordsOf, wordOf}
-use Rattle.setting_texts.specs.Rows.{values, textOf, rows}
+use Rattle.setting_texts.specs.Rows.{values, textOf, rowOf, firstWord}
 use Rattle.setting_words.specs.Rows.{bareOf, initials, meets}
-use Rattle.setting_texts.proofs.Rules.{firsts}
 
-right : ℕ → ℕ → Bool
-right row j = eqb (getD rows (row * 13 + j) 0) (getD (textOf row) j 0)
+-- a byte of a row's text is that of its row
+pub byte-is : (row j : ℕ) → j < length (textOf row) → getD (rowOf row) j 0 ≡ getD (textOf row) j 0
+byte-is row j l = List·getD-append (textOf row) (replicate (13 - length (textOf row)) 95) 0 j l
 
-allRight : ℕ → Bool
-allRight row = everyBelow (length (textOf row)) (right row)
-
-pub byte-is : (row j : ℕ) → row < 32 → j < length (textOf row) → getD rows (row * 13 + j) 0 ≡ getD (textOf row) j 0
-unfolding right allRight
-byte-is row j h l = eqb→eq _ _ (below (length (textOf row)) (right row) (below 32 allRight tt row h) j l)
-
--- the lengths of the rows' bare texts
-abbrev pub bares : List ℕ
-bares = map length (names ++ values)
-
-pub bare-length : (row : ℕ) → getD bares row 0 ≡ length (bareOf row)
-bare-length row = List·getD-map length (names ++ values) row []
+-- behind the rows there is no bare text
+pub no-bare : (row : ℕ) → 32 ≤ row → bareOf row ≡ []
+no-bare row h = List·getD-eq-default (names ++ values) [] h
 
 -- a row's bare text is its front
 bareFront : ℕ → Bool
@@ -78,11 +68,11 @@ unfolding nameRow
 name-row k h = same-is _ _ (sure _ (below 23 nameRow tt k h))
 
 wordRow : ℕ → ℕ → Bool
-wordRow k v = same (bareOf (getD firsts k 0 + v)) (wordOf k v)
+wordRow k v = same (bareOf (firstWord k + v)) (wordOf k v)
 
 wordRows : ℕ → Bool
 wordRows k = everyBelow (length (wordsOf k)) (wordRow k)
 
-pub word-row : (k v : ℕ) → k < 23 → v < length (wordsOf k) → bareOf (getD firsts k 0 + v) ≡ wordOf k v
+pub word-row : (k v : ℕ) → k < 23 → v < length (wordsOf k) → bareOf (firstWord k + v) ≡ wordOf k v
 unfolding wordRow wordRows
 word-row k v h l = same-is _ _ (sure _ (below (length (wordsOf k)) (wordRow k) (below 23 wordRows tt k h) v l))

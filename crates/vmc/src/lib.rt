@@ -5,7 +5,8 @@ use settings::SETTING_COUNT;
 ghost use mathlib.Core.Path.{_≡_};
 ghost use Prim.Native.Nat.{_<_, _≤_};
 ghost use lib.ListN.{set};
-ghost use Rattle.vmc.specs.Orders.{withSettings, withShifts, flipOf, flippedTo, flipSays, assigned, valueAt, carried, saysOf};
+ghost use Rattle.vmc.specs.Orders.{flipOf, flippedTo, flipSays, assigned, valueAt, carried, saysOf};
+ghost use Rattle.vmc.specs.Changes.{settingsAfter, shiftsAfter};
 use vmc_asks::Order;
 use vmc_tells::Says;
 
@@ -67,45 +68,57 @@ fn value_at(settings: [u8; 19], k: usize) -> u8
     flip_says(flip_of(k), settings[FLIP])
 }
 
-// A setting at a value.
-fn set_value(w: WRecord, k: usize, v: u8) -> WRecord
-    ensures { λ r. ⌜ r ≡ withSettings w (assigned k v (w .settings)) ⌝ }
-{
-    let settings = w.settings;
-    let next = assign(settings, k, v);
-    let mut x = w;
-    x.settings = next;
-    x
+// What an order can change of a record.
+struct Changeable {
+    settings: [u8; 19],
+    shifts: [i8; 2],
 }
 
-// A shift at a value.
-fn shift(w: WRecord, axis: usize, z: i8) -> WRecord
-    ensures { λ r. ⌜ r ≡ withShifts w (set (w .shifts) axis z) ⌝ }
+// The shifts with one of them at a value.
+fn moved(shifts: [i8; 2], axis: usize, z: i8) -> [i8; 2]
+    ensures { λ r. ⌜ r ≡ set shifts axis z ⌝ }
 {
-    if 2 <= axis {
-        return w;
+    let mut s = shifts;
+    if axis < 2 {
+        s[axis] = z;
     }
-    let mut shifts = w.shifts;
-    shifts[axis] = z;
-    let mut x = w;
-    x.shifts = shifts;
-    x
+    s
+}
+
+// The settings and the shifts after an order. The rest of a record is not carried through the cases: so no copy of it is made for them.
+fn changed(settings: [u8; 19], shifts: [i8; 2], o: Order) -> Changeable
+    ensures { λ r. ⌜ (r .settings ≡ settingsAfter o settings) × (r .shifts ≡ shiftsAfter o shifts) ⌝ }
+{
+    match o {
+        Order::Set(k, v) => Changeable {
+            settings: assign(settings, k, v),
+            shifts,
+        },
+        Order::Shift(axis, z) => Changeable {
+            settings,
+            shifts: moved(shifts, axis, z),
+        },
+        Order::Reset => Changeable {
+            settings,
+            shifts: [0; 2],
+        },
+        Order::Get(_) => Changeable { settings, shifts },
+    }
 }
 
 // An order carried out.
 pub fn obey(w: WRecord, o: Order) -> WRecord
     ensures { λ r. ⌜ r ≡ carried o w ⌝ }
 {
-    match o {
-        Order::Set(k, v) => set_value(w, k, v),
-        Order::Shift(axis, z) => shift(w, axis, z),
-        Order::Reset => {
-            let mut x = w;
-            x.shifts = [0; 2];
-            x
-        }
-        Order::Get(_) => w,
-    }
+    let settings = w.settings;
+    let shifts = w.shifts;
+    let n = changed(settings, shifts, o);
+    let next_settings = n.settings;
+    let next_shifts = n.shifts;
+    let mut x = w;
+    x.settings = next_settings;
+    x.shifts = next_shifts;
+    x
 }
 
 // The present value behind name k.

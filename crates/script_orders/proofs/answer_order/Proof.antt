@@ -99,99 +99,77 @@ same-length c = search needs
 
 returns-2 : tie.Need-returns-2
 unfolding ordered
-returns-2 c =
-    let a = c .before .before .before .before .before .before .before .before .before .args in
-    by-order (a .b) (a .line .now) (c .before .before .before .before .before .enum-told2 .given .1) (c .before .before .say .ensures)
+returns-2 c = let a = c .before .before .before .before .before .before .before .before .before .args in by-order (a .b) (a .line .now) (c .before .before .before .before .before .enum-told2 .given .1) (c .before .before .say .ensures)
 
 same-length-2 : tie.Need-same-length-2
 same-length-2 c = search needs
 
 returns-3 : tie.Need-returns-3
 unfolding ordered
-returns-3 c =
-    let a = c .before .before .before .before .before .before .before .before .args in
-    by-order (a .b) (a .line .now) (c .before .before .before .before .enum-told3 .given .1) (c .before .before .answer-box .ensures)
+returns-3 c = let a = c .before .before .before .before .before .before .before .before .args in by-order (a .b) (a .line .now) (c .before .before .before .before .enum-told3 .given .1) (c .before .before .answer-box .ensures)
 
 same-length-3 : tie.Need-same-length-3
 same-length-3 c = search needs
 
 returns-4 : tie.Need-returns-4
 unfolding ordered
-returns-4 c =
-    let a = c .before .before .before .before .before .before .before .before .args in
-    by-order (a .b) (a .line .now) (c .before .before .before .before .enum-told4 .given .1) (c .before .before .answer-message .ensures)
+returns-4 c = let a = c .before .before .before .before .before .before .before .before .args in by-order (a .b) (a .line .now) (c .before .before .before .before .enum-told4 .given .1) (c .before .before .answer-message .ensures)
 
 same-length-4 : tie.Need-same-length-4
 same-length-4 c = search needs
 
 returns-5 : tie.Need-returns-5
 unfolding ordered
-returns-5 c =
-    let a = c .before .before .before .before .before .before .before .before .args in
-    by-order (a .b) (a .line .now) (c .before .before .before .before .enum-told5 .given .1) (c .before .before .answer-message2 .ensures)
+returns-5 c = let a = c .before .before .before .before .before .before .before .before .args in by-order (a .b) (a .line .now) (c .before .before .before .before .enum-told5 .given .1) (c .before .before .answer-message2 .ensures)
 
 same-length-5 : tie.Need-same-length-5
 same-length-5 c = search needs
 
 returns-6 : tie.Need-returns-6
 unfolding ordered
-returns-6 c =
-    let a = c .before .before .before .before .before .before .before .before .args in
-    by-order (a .b) (a .line .now) (c .before .before .before .before .enum-told6 .given .1) (c .before .before .answer-message3 .ensures)
+returns-6 c = let a = c .before .before .before .before .before .before .before .before .args in by-order (a .b) (a .line .now) (c .before .before .before .before .enum-told6 .given .1) (c .before .before .answer-message3 .ensures)
 
 same-length-6 : tie.Need-same-length-6
 same-length-6 c = search needs
 
 returns-7 : tie.Need-returns-7
 unfolding ordered
-returns-7 c =
-    let a = c .before .before .before .before .before .before .before .before .args in
-    by-order (a .b) (a .line .now) (c .before .before .before .before .enum-told7 .given .1) (c .before .before .answer-udp .ensures)
+returns-7 c = let a = c .before .before .before .before .before .before .before .before .args in by-order (a .b) (a .line .now) (c .before .before .before .before .enum-told7 .given .1) (c .before .before .answer-udp .ensures)
 
 same-length-7 : tie.Need-same-length-7
 same-length-7 c = search needs
 
 returns-8 : tie.Need-returns-8
 unfolding ordered
-returns-8 c =
-    let a = c .before .before .before .before .before .before .before .before .args in
-    by-order (a .b) (a .line .now) (c .before .before .before .before .enum-told8 .given .1) (c .before .before .answer-show .ensures)
+returns-8 c = let a = c .before .before .before .before .before .before .before .before .args in by-order (a .b) (a .line .now) (c .before .before .before .before .enum-told8 .given .1) (c .before .before .answer-show .ensures)
 
 same-length-8 : tie.Need-same-length-8
 same-length-8 c = search needs
 
 returns-9 : tie.Need-returns-9
 unfolding ordered
-returns-9 c =
-    let a = c .before .before .before .before .before .before .before .before .args in
-    by-order (a .b) (a .line .now) (c .before .before .before .before .enum-told9 .given .1) (c .before .before .answer-advert .ensures)
+returns-9 c = let a = c .before .before .before .before .before .before .before .before .args in by-order (a .b) (a .line .now) (c .before .before .before .before .enum-told9 .given .1) (c .before .before .answer-advert .ensures)
 
 same-length-9 : tie.Need-same-length-9
 same-length-9 c = search needs
 
 returns-10 : tie.Need-returns-10
 unfolding ordered
-returns-10 c =
-    let a = c .before .before .before .before .before .before .before .before .args in
-    by-order (a .b) (a .line .now) (c .before .before .before .before .enum-told10 .given .1) (c .before .before .answer-write .ensures)
+returns-10 c = let a = c .before .before .before .before .before .before .before .before .args in by-order (a .b) (a .line .now) (c .before .before .before .before .enum-told10 .given .1) (c .before .before .answer-write .ensures)
 
 same-length-10 : tie.Need-same-length-10
 same-length-10 c = search needs
 
 returns-11 : tie.Need-returns-11
 unfolding ordered
-returns-11 c =
-    let a = c .before .before .before .before .before .before .before .before .args in
-    by-order (a .b) (a .line .now) (c .before .before .before .before .enum-told11 .given .1) (c .before .before .answer-sum .ensures)
+returns-11 c = let a = c .before .before .before .before .before .before .before .before .args in by-order (a .b) (a .line .now) (c .before .before .before .before .enum-told11 .given .1) (c .before .before .answer-sum .ensures)
 
 same-length-11 : tie.Need-same-length-11
 same-length-11 c = search needs
 
 returns-12 : tie.Need-returns-12
 unfolding ordered
-returns-12 c =
-    let a = c .before .before .before .before .before .before .before .before .args in
-    by-order (a .b) (a .line .now) (c .before .before .before .before .enum-told12 .given .1) (c .before .before .answer-plain .ensures)
+returns-12 c = let a = c .before .before .before .before .before .before .before .before .args in by-order (a .b) (a .line .now) (c .before .before .before .before .enum-told12 .given .1) (c .before .before .answer-plain .ensures)
 
 pub answer-order-spec : {M : Type 1} → statement M
 answer-order-spec =

@@ -11,69 +11,59 @@ use Rattle.laws.proofs.Lists.{other-length}
 use Rattle.laws.proofs.Texts.{begins-same}
 use Rattle.setting_texts.specs.Rows.{textOf}
 use Rattle.setting_words.specs.Rows.{bareOf, meets}
-use Rattle.setting_words.proofs.Rules.{bare-front, bare-fits, bare-length}
-use Rattle.setting_texts.proofs.Rules.{text-length}
+use Rattle.setting_words.proofs.Rules.{bare-front, bare-fits}
 use Rattle.setting_words.proofs.row_agrees.Statement.{statement}
 use Rattle.setting_words.proofs.row_agrees.Tie as tie
 
-mul-n : tie.Need-mul-n
-mul-n c = search needs
-
-array-read-n : tie.Need-array-read-n
-array-read-n c = search needs
+bare-length-requires : tie.Need-bare-length-requires
+bare-length-requires c κs = search needs
 
 returns : tie.Need-returns
 unfolding meets
 returns c =
-    let a = c .before .before .before .args in
-    let d : length (bareOf (a .row)) ≡ length (a .s .now) → ⊥ = λ e. c .if2 .taken (sym e ∙ sym (bare-length (a .row))) in
-    rw (c .before .if1 .taken) (sym (other-length (bareOf (a .row)) (a .s .now) d))
+    let a = c .before .before .before .before .args in
+    let d : length (bareOf (a .row)) ≡ length (a .s .now) → ⊥ = λ e. c .if2 .taken (sym e ∙ sym (c .before .bare-length .ensures)) in
+    rw (c .before .before .if1 .taken) (sym (other-length (bareOf (a .row)) (a .s .now) d))
 
 row-begins-requires : tie.Need-row-begins-requires
 row-begins-requires c κs =
-    let a = c .before .before .before in
-    (a .pre .0, (a .pre .1, rw (bare-length (a .args .row)) (bare-fits (a .args .row) (a .pre .1))))
+    let a = c .before .before .before .before in
+    (a .pre, rw (c .before .bare-length .ensures) (bare-fits (a .args .row) (a .pre)))
 
 returns-2 : tie.Need-returns-2
 unfolding meets
 returns-2 c =
-    let x = c .before .before .before .before in
+    let x = c .before .before .before .before .before in
     let row = x .args .row in
     let s = x .args .s .now in
-    let l : length s ≡ length (bareOf row) = c .before .if2 .left ∙ bare-length row in
-    let e : c .row-begins .result ≡ same (bareOf row) s = c .row-begins .ensures ∙ ap (λ (n : ℕ). begins (take n (textOf row)) s) (bare-length row) ∙ ap (λ (t : List ℕ). begins t s) (bare-front row (x .pre .1)) ∙ begins-same (bareOf row) s l in
-    rw (c .before .before .if1 .taken) e
+    let n = c .before .before .bare-length .ensures in
+    let l : length s ≡ length (bareOf row) = c .before .if2 .left ∙ n in
+    let e : c .row-begins .result ≡ same (bareOf row) s = c .row-begins .ensures ∙ ap (λ (m : ℕ). begins (take m (textOf row)) s) n ∙ ap (λ (t : List ℕ). begins t s) (bare-front row (x .pre)) ∙ begins-same (bareOf row) s l in
+    rw (c .before .before .before .if1 .taken) e
 
-mul-n-2 : tie.Need-mul-n-2
-mul-n-2 c = search needs
-
-array-read-n-2 : tie.Need-array-read-n-2
-array-read-n-2 c = search needs
+text-length-requires : tie.Need-text-length-requires
+text-length-requires c κs = search needs
 
 row-begins-requires-2 : tie.Need-row-begins-requires-2
-row-begins-requires-2 c κs =
-    let a = c .before .before in
-    (a .pre .0, (a .pre .1, rw (text-length (a .args .row)) (omega arith)))
+row-begins-requires-2 c κs = (c .before .before .before .pre, rw (c .text-length .ensures) (omega arith))
 
 returns-3 : tie.Need-returns-3
 unfolding meets
 returns-3 c =
-    let x = c .before .before .before in
+    let x = c .before .before .before .before in
     let row = x .args .row in
     let s = x .args .s .now in
-    let e : c .row-begins2 .result ≡ begins (textOf row) s = c .row-begins2 .ensures ∙ ap (λ (n : ℕ). begins (take n (textOf row)) s) (text-length row) ∙ ap (λ (t : List ℕ). begins t s) (take-length (textOf row)) in
-    rw (c .before .if1 .left) e
+    let e : c .row-begins2 .result ≡ begins (textOf row) s = c .row-begins2 .ensures ∙ ap (λ (m : ℕ). begins (take m (textOf row)) s) (c .before .text-length .ensures) ∙ ap (λ (t : List ℕ). begins t s) (take-length (textOf row)) in
+    rw (c .before .before .if1 .left) e
 
 pub row-agrees-spec : {M : Type 1} → statement M
 row-agrees-spec =
     tie.close
     (tie.spec
-    mul-n
-    array-read-n
+    bare-length-requires
     returns
     row-begins-requires
     returns-2
-    mul-n-2
-    array-read-n-2
+    text-length-requires
     row-begins-requires-2
     returns-3)

@@ -15,7 +15,7 @@ returns : tie.Need-returns
 returns c =
     let a = c .before .before .before in
     let row = a .args .row in
-    sym (other-initial (a .args .bare) row (a .args .s .now) (a .pre .1 .1 .1) (λ e. c .if1 .taken (a .pre .0 ∙ e ∙ sym (ap (λ (t : List ℕ). getD t row 0) (a .pre .1 .0)))))
+    sym (other-initial (a .args .bare) row (a .args .s .now) (a .pre .1 .1) (λ e. c .if1 .taken (a .pre .0 ∙ e ∙ sym (ap (λ (t : List ℕ). getD t row 0) (a .pre .1 .0)))))
 
 row-agrees-requires : tie.Need-row-agrees-requires
 row-agrees-requires c κs = search needs
