@@ -5,7 +5,7 @@ use mathlib.Core.List.{List, []}
 use Prim.Native.Nat.{ℕ, _<_}
 use native.Mathlib.Omega.{arith}
 use lib.Dec.{ltb}
-use lib.ListN.{length}
+use lib.ListN.{length, getD}
 use borrow.Author.Tests.{eqb-false, ltb-true, ltb-false}
 use Rattle.laws.specs.Lists.{listed}
 use Rattle.laws.proofs.Conditions.{choose}
@@ -19,6 +19,7 @@ use Rattle.panels.specs.declared.DisplayBox.{DisplayBox}
 use Rattle.steps.specs.Messages.{Message, rs232c, kjw, tcp, udp}
 use Rattle.steps.specs.Step.{messageAnswers, toNobody, Outcome, Back, back, step}
 use Rattle.steps.proofs.Numbered as steps
+use Rattle.steps.proofs.Placed.{placesIn, placed}
 use Rattle.steps.proofs.Door.{Lends, by-rs232c, by-kjw, by-tcp}
 use Rattle.steps.proofs.Validity.{bad-kept}
 use Rattle.steps.proofs.Refusals.{refused-leaves, udp-quiet, early-quiet, none-sent, too-small, bad-lent, bad-udp, bad-quiet}
@@ -59,7 +60,19 @@ module _ (b : DisplayBox) (way link : ℕ) (m area : List ℕ) where
   pub numbered : listed messageAnswers (called b way link m area .answer) ≡ true
   numbered = at-every (λ (c : Called). listed messageAnswers (c .answer) ≡ true) (λ msg k. steps.numbered b msg) (steps.numbered b (udp m)) refl
 
-  -- document 02, §8, "other answers have place 0": those whose number is under 9
+  -- document 02, §8, "With each goes the place of the first byte of the guilty field": number and length fix it, whatever the number of the way
+  placed-by : (e : Entry) → calledBy e b link m area .place ≡ getD (placesIn (length m)) (calledBy e b link m area .answer) 0
+  placed-by (Through (By Rs232c)) = placed b (rs232c link m area)
+  placed-by (Through (By Kjw)) = placed b (kjw link m area)
+  placed-by (Through (By Tcp)) = placed b (tcp link m area)
+  placed-by (Through Udp) = placed b (udp m)
+  placed-by Nowhere = refl
+
+  pub call-placed : called b way link m area .place ≡ getD (placesIn (length m)) (called b way link m area .answer) 0
+  unfolding called
+  call-placed = placed-by (wayOf way)
+
+  -- "other answers have place 0": those whose number is under 9
   pub other-place : called b way link m area .answer < 9 → called b way link m area .place ≡ 0
   other-place =
       at-every (λ (c : Called). c .answer < 9 → c .place ≡ 0) (λ msg k. place-none (step b msg .answer)) (place-none (step b (udp m) .answer))
