@@ -44,8 +44,7 @@
  * aligned as their struct is (_Alignof(struct display_box) is 8, as of a receiver
  * and a listing): a variable of that type is, and what malloc gives is. Any bits
  * are a box. One that breaks the rules is answered as a box of no panels, and comes
- * back bit for bit as it was; so is one with a busy mark or a line of waiting sets
- * that the rules can't leave. Any bits are a receiver too; one that claims too much
+ * back bit for bit as it was. Any bits are a receiver too; one that claims too much
  * is an empty one. What a listing held is not looked at.
  *
  * Stack. A call needs at most BOX_STACK_LENGTH bytes of it, and box_plain at most
@@ -53,8 +52,8 @@
  *
  * Answers (document 01, "Answer numbers", and document 02): enum box_answer.
  * Checks run in the order of the numbers, but that 9 to 14 come where a message
- * would have 5, behind 4 and before 6, and 8 and 16 between them and 6; the first
- * that applies is given. 17 is of box_busy and box_free, which give 0 or 17 alone.
+ * would have 5, behind 4 and before 6, and 8 between them and 6; the first that
+ * applies is given.
  */
 #ifndef DISPLAY_BOX_H
 #define DISPLAY_BOX_H
@@ -86,10 +85,6 @@ enum box_answer {
     BOX_DATA_NOT_MATCHING = 12, /* SDCP: the data length is not the number of bytes that follow; 11 */
     BOX_COUNT_WRONG = 13,      /* RS-232C: the byte count is not the length less 3; 1 */
     BOX_CHECKSUM_WRONG = 14,   /* RS-232C: the bytes from the byte count to the checksum do not sum to 0; the frame's last byte */
-    /* a busy panel; the place is 0 */
-    BOX_LINE_FULL = 15,        /* SDCP: eight sets wait already, so this one was dropped; by UDP no panel took it */
-    BOX_PANEL_BUSY = 16,       /* RS-232C: the panel is busy, so the frame was not looked into and the reply is NAK */
-    BOX_NO_W_PANEL = 17,       /* box_busy, box_free alone: no W panel with that link number */
 };
 
 /* The ways in. Any other number is no way in, and is answered BOX_NO_SUCH_PANEL, also where the area is too small for a reply. */
@@ -98,8 +93,6 @@ enum box_way {
     BOX_WAY_KJW = 2,    /* the KJW link of the link's panel, which is of family K */
     BOX_WAY_TCP = 3,    /* SDCP by TCP on the link of a W panel */
     BOX_WAY_UDP = 4,    /* SDCP by UDP, to every W panel or every one of a group; no link, no reply */
-    BOX_WAY_BUSY = 5,   /* the host's notice that the link's panel, which is of family W, is busy; no message, no reply */
-    BOX_WAY_FREE = 6,   /* the host's notice that it is free */
 };
 
 /* The reply area of box_take: at least so many bytes. No reply is longer. */
@@ -109,7 +102,7 @@ enum box_way {
  * The stack that a call needs at most, with its arguments and with glibc's memcpy
  * and memset; measured on the archive (tests/c/stack.c) and rounded up.
  */
-#define BOX_STACK_LENGTH 6144
+#define BOX_STACK_LENGTH 4096
 
 /* The same of box_plain, whose two rules call each other: each entry of its list is two calls deeper. */
 #define BOX_PLAIN_STACK_LENGTH 16384
@@ -121,7 +114,7 @@ enum box_way {
  * number in front of it, and loads only what has the number that it was compiled
  * with. A receiver is not saved: its connection is over by then.
  */
-#define BOX_LAYOUT 3
+#define BOX_LAYOUT 2
 
 #define BOX_PANELS 8
 
@@ -205,41 +198,6 @@ struct box_k_record {
     uint16_t port;
 };
 
-/* The sets that a panel's line has room for. */
-#define BOX_WAITING 8
-
-/*
- * The names of the sets that wait. Below BOX_FLIP they are the places of settings[]:
- * BOX_VOLUME is VOLUME. Behind them the words that have no place of their own.
- */
-enum box_waiting {
-    BOX_WAITING_FLIPH = BOX_FLIP,
-    BOX_WAITING_FLIPV,
-    BOX_WAITING_FLIPHV,
-    BOX_WAITING_SHIFTH,
-    BOX_WAITING_SHIFTV,
-    BOX_WAITING_RESET,
-    BOX_WAITING_NAMES /* how many there are: 24 */
-};
-
-/*
- * The sets that wait while a W panel is busy, the oldest first. The value of a level
- * or a choice is as in settings[], that of a switch or a flip's word 0 OFF, 1 ON;
- * that of a shift is 30 more than the shift, 0 to 60; that of RESET is 0.
- *
- * The rules leave a line in these states alone: free with nothing waiting, which
- * is all zeros, as is the line of every K panel; or busy with up to eight sets of
- * these names in their ranges, and zeros behind them. A box with any other line or
- * mark, a free panel with sets waiting or a busy K panel too, is a box of no
- * panels. The lines of unused places are not judged.
- */
-struct box_line {
-    uint8_t busy;  /* 0 free, 1 busy */
-    uint8_t count; /* how many wait */
-    uint8_t names[BOX_WAITING];
-    uint8_t values[BOX_WAITING];
-};
-
 /* A panel has both records; that of the other family is neither judged nor changed. */
 struct box_panel {
     uint8_t family;
@@ -248,7 +206,6 @@ struct box_panel {
     uint8_t spare; /* neither judged nor changed */
     struct box_w_record w;
     struct box_k_record k;
-    struct box_line line;
 };
 
 /*
@@ -319,9 +276,8 @@ struct box_received {
 #else
 #define BOX_LENGTH_IS(record, length) typedef char box_length_of_##record[sizeof(struct record) == (length) ? 1 : -1]
 #endif
-BOX_LENGTH_IS(box_line, 18);
-BOX_LENGTH_IS(box_panel, 76);
-BOX_LENGTH_IS(display_box, 616);
+BOX_LENGTH_IS(box_panel, 58);
+BOX_LENGTH_IS(display_box, 472);
 BOX_LENGTH_IS(box_outcome, 16);
 BOX_LENGTH_IS(box_receiver, 520);
 BOX_LENGTH_IS(box_received, 16);
@@ -330,7 +286,7 @@ BOX_LENGTH_IS(box_listing, 1048);
 
 /*
  * A new box: three bytes a panel, its family, its group and its unit. Gives
- *   BOX_DONE               the box has those panels, each free and at its start values
+ *   BOX_DONE               the box has those panels, each at its start values
  *   BOX_BAD_CONFIGURATION  the configuration breaks a rule (no panel or more than
  *                          8, another family, an ID out of range, two W panels
  *                          with the same pair, a length that is no multiple of
@@ -344,22 +300,19 @@ uint8_t box_configure(struct display_box *box, const uint8_t *configuration, siz
  * bytes of area are to go back to the console, and 0 is no reply. A message that
  * is not BOX_DONE can have a reply too.
  *
- * Every way but the two notices gives BOX_DONE, BOX_WRONG_LENGTH, BOX_NOT_FOR_US and
- * BOX_NOT_UNDERSTOOD, and all but UDP BOX_AREA_TOO_SMALL and BOX_NO_SUCH_PANEL; besides
- *   BOX_WAY_RS232C  BOX_COUNT_WRONG, BOX_CHECKSUM_WRONG, BOX_PANEL_BUSY
- *   BOX_WAY_TCP     BOX_REQUEST_WRONG, BOX_ITEM_WRONG, BOX_DATA_TOO_LONG, BOX_DATA_NOT_MATCHING, BOX_LINE_FULL
+ * Every way gives BOX_DONE, BOX_WRONG_LENGTH, BOX_NOT_FOR_US and BOX_NOT_UNDERSTOOD,
+ * and all but UDP BOX_AREA_TOO_SMALL and BOX_NO_SUCH_PANEL; besides
+ *   BOX_WAY_RS232C  BOX_COUNT_WRONG, BOX_CHECKSUM_WRONG
+ *   BOX_WAY_TCP     BOX_REQUEST_WRONG, BOX_ITEM_WRONG, BOX_DATA_TOO_LONG, BOX_DATA_NOT_MATCHING
  *   BOX_WAY_UDP     the same, and BOX_STATUS_BY_BROADCAST
  *
  * All of the area behind the reply keeps what it held; where the answer is not
  * BOX_DONE, all of the box does too. When BOX_DONE is given, what was set stands
- * in the panel's record, or in its line where the panel is busy, but for two RS-232C
- * orders that are acknowledged and ignored: to use a connector that is OFF, and to
- * turn OFF the last one that is ON.
+ * in the box, but for two RS-232C orders that are acknowledged and ignored: to
+ * use a connector that is OFF, and to turn OFF the last one that is ON.
  *
  * By BOX_WAY_UDP the link and the area are not looked at: the link is any number,
- * the area may be (NULL, 0), and the length is always 0. Each panel that is called
- * decides for itself, and BOX_DONE says that one of them took the set; with
- * BOX_LINE_FULL all of them were busy with a full line.
+ * the area may be (NULL, 0), and the length is always 0.
  *
  * By BOX_WAY_KJW the codes of the remote control are taken too: IRCC with sixteen
  * decimal digits. A code that changes nothing, as Volume Up at 100, is BOX_DONE
@@ -398,40 +351,8 @@ static inline struct box_outcome box_take_udp(struct display_box *box, const uin
 }
 
 /*
- * The host's notices: the W panel behind a link has become busy, as with a white
- * balance run, or free. No message tells the box of it, so where the host says
- * nothing every panel is free. Each gives
- *   BOX_DONE        the panel is marked; what was so already is left as it is
- *   BOX_NO_W_PANEL  the link has no panel, or a K panel, or the box breaks the rules
- * with place 0 and length 0. By box_take the message and the area are not looked at.
- *
- * While a panel is busy
- *   - an understood STATset waits in its line, a RESET and one that would change
- *     nothing too, and is answered as if it had been carried out; its record does
- *     not change. With eight waiting a further one is dropped: BOX_LINE_FULL, and by
- *     TCP the reply NG F0h 50h.
- *   - STATget is answered from the record as it would stand after its line.
- *   - every RS-232C frame with a good envelope is BOX_PANEL_BUSY, with the reply NAK.
- *   - all else is as of a free panel; other panels do not see it.
- *
- * box_free carries out what waits, in order, and empties the line. Nothing else
- * does, and no time does: where the host has said busy and does not say free, what
- * waits is never carried out. So free is told too where a run was broken off.
- */
-static inline struct box_outcome box_busy(struct display_box *box, size_t link)
-{
-    return box_take(box, BOX_WAY_BUSY, link, NULL, 0, NULL, 0);
-}
-
-static inline struct box_outcome box_free(struct display_box *box, size_t link)
-{
-    return box_take(box, BOX_WAY_FREE, link, NULL, 0, NULL, 0);
-}
-
-/*
  * The panel behind a link, 1 to box->count, copied into *panel; all zeros where
- * the box has no such panel or breaks the rules. The family tells: 0 is none. Its
- * record is as it stands, before what waits in its line.
+ * the box has no such panel or breaks the rules. The family tells: 0 is none.
  */
 void box_panel_at(const struct display_box *box, size_t link, struct box_panel *panel);
 

@@ -6,9 +6,8 @@
  * one to the box, writes the reply back and logs a line. A panel is of family W
  * and its device carries RS-232C frames, or of family K with KJW frames (document
  * 01). SDCP comes in pieces that are cut anywhere, and the box's own receiver puts
- * them together. No white balance run is started from here, so no panel is told to
- * be busy. sample/README.md says how to build and run it, when a host says busy, and
- * what this one leaves out.
+ * them together. sample/README.md says how to build and run it, and what it leaves
+ * out.
  */
 #define _DEFAULT_SOURCE /* POSIX, and CRTSCTS beside it */
 
@@ -89,9 +88,6 @@ static const char *answer_words(uint8_t answer)
     case BOX_DATA_NOT_MATCHING: return "data length not matching";
     case BOX_COUNT_WRONG: return "byte count wrong";
     case BOX_CHECKSUM_WRONG: return "checksum wrong";
-    case BOX_LINE_FULL: return "line full";
-    case BOX_PANEL_BUSY: return "busy on RS-232C";
-    case BOX_NO_W_PANEL: return "a busy notice for a link that is no W panel";
     default: return "an answer that this host does not know";
     }
 }

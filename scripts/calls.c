@@ -7,14 +7,6 @@
  *     calls 200000 rs232 1 512 020301416E4D
  *     200000 58324014 answer 0 reply 020441017E013B
  *
- * Orders that make the box ready may stand before it, each with its own number of
- * times and a `;` behind it. Then the loop puts the ready box back before each
- * call; with no order behind the last `;` it does that alone, so that its cost can
- * be taken off:
- *
- *     calls 200000 1 busy 1 ';' 8 tcp 1 512 030B.. ';' free 1
- *     calls 200000 1 busy 1 ';' 8 tcp 1 512 030B.. ';'
- *
  * second/src/bin/calls.rs is the same for the second program.
  */
 #define _POSIX_C_SOURCE 200809L
@@ -34,7 +26,7 @@ static const uint8_t panels[] = {
 
 static _Noreturn void unread(void)
 {
-    fputs("usage: calls TIMES [TIMES ORDER.. ;].. ORDER.., an order being rs232, kjw, tcp, udp, busy, free, advert or write with its words\n", stderr);
+    fputs("usage: calls TIMES ORDER.., the order being rs232, kjw, tcp, udp, advert or write with its words\n", stderr);
     exit(2);
 }
 
@@ -73,71 +65,25 @@ static void tell_reply(const uint8_t *reply, size_t length)
     put_hex(reply, length);
 }
 
-/* A call of box_take: LINK AREA HEX; by UDP HEX alone, and of a notice LINK alone. */
-struct order {
-    uint8_t way;
-    bool has_area;
-    size_t link, area_length;
-    struct bytes message;
-};
-
-/* Says whether the words are such an order. */
-static bool is_message(char **words, int count, struct order *order)
+/* LINK AREA HEX; by UDP HEX alone. */
+static void take(uint32_t times, uint8_t way, char **words)
 {
-    static const struct { const char *name; int count; uint8_t way; } ways[] = {
-        { "rs232", 4, BOX_WAY_RS232C }, { "kjw", 4, BOX_WAY_KJW },   { "tcp", 4, BOX_WAY_TCP },
-        { "udp", 2, BOX_WAY_UDP },      { "busy", 2, BOX_WAY_BUSY }, { "free", 2, BOX_WAY_FREE },
-    };
-    for (size_t i = 0; i < sizeof ways / sizeof ways[0]; i++)
-        if (count == ways[i].count && strcmp(words[0], ways[i].name) == 0) {
-            *order = (struct order){ .way = ways[i].way, .has_area = count == 4 };
-            if (order->way != BOX_WAY_UDP)
-                order->link = number_of(words[1], UINT32_MAX);
-            if (order->has_area)
-                order->area_length = number_of(words[2], MOST_BYTES);
-            if (order->has_area || order->way == BOX_WAY_UDP)
-                order->message = bytes_of(words[count - 1]);
-            return true;
-        }
-    return false;
-}
+    bool has_area = way != BOX_WAY_UDP;
+    size_t link = has_area ? number_of(words[0], UINT32_MAX) : 0;
+    size_t area_length = has_area ? number_of(words[1], MOST_BYTES) : 0;
+    struct bytes message = bytes_of(words[has_area ? 2 : 0]);
+    uint8_t area[MOST_BYTES];
+    struct display_box box;
+    if (box_configure(&box, panels, sizeof panels) != BOX_DONE)
+        exit(1);
 
-static uint8_t area[MOST_BYTES];
-
-static struct box_outcome take(struct display_box *box, const struct order *order)
-{
-    return box_take(box, order->way, order->link, order->message.at, order->message.length, area, order->area_length);
-}
-
-/* The box is put back before each call where it was made ready. */
-static void take_again(uint32_t times, struct display_box *box, bool was_readied, const struct order *order)
-{
-    const struct display_box ready = *box;
     struct box_outcome outcome = { 0, 0, 0 };
     uint64_t start = nanoseconds();
-    if (was_readied)
-        for (uint32_t i = 0; i < times; i++) {
-            *box = ready;
-            outcome = take(box, order);
-        }
-    else
-        for (uint32_t i = 0; i < times; i++)
-            outcome = take(box, order);
+    for (uint32_t i = 0; i < times; i++)
+        outcome = box_take(&box, way, link, message.at, message.length, area, area_length);
     tell(times, nanoseconds() - start, outcome.answer, outcome.place);
-    if (order->has_area)
+    if (has_area)
         tell_reply(area, outcome.length);
-}
-
-/* As much as goes before each call of a box that was made ready; the compiler must not see that nobody looks. */
-static void put_back(uint32_t times, struct display_box *box)
-{
-    const struct display_box ready = *box;
-    uint64_t start = nanoseconds();
-    for (uint32_t i = 0; i < times; i++) {
-        *box = ready;
-        __asm__ volatile("" : : "r"(box) : "memory");
-    }
-    printf("%lu %llu put back", (unsigned long)times, (unsigned long long)(nanoseconds() - start));
 }
 
 /* HEX. */
@@ -164,6 +110,7 @@ static void write_advert(uint32_t times, char **words)
     for (size_t i = 0; i < 5; i++)
         ip[i] = number_of(words[6 + i], UINT32_MAX);
     uint8_t group = (uint8_t)number_of(words[14], UINT8_MAX), unit = (uint8_t)number_of(words[15], UINT8_MAX);
+    uint8_t area[MOST_BYTES];
 
     uint8_t answer = 0;
     uint64_t start = nanoseconds();
@@ -175,47 +122,32 @@ static void write_advert(uint32_t times, char **words)
     tell_reply(area, answer == BOX_DONE ? BOX_ADVERT_LENGTH : 0);
 }
 
-static void carry_out(uint32_t times, struct display_box *box, bool was_readied, char **words, int count)
+static void carry_out(uint32_t times, const char *order, char **words, int count)
 {
-    struct order order;
-    if (count == 0 && was_readied)
-        put_back(times, box);
-    else if (count > 0 && is_message(words, count, &order))
-        take_again(times, box, was_readied, &order);
-    else if (count == 2 && strcmp(words[0], "advert") == 0)
-        read_advert(times, words + 1);
-    else if (count == 17 && strcmp(words[0], "write") == 0)
-        write_advert(times, words + 1);
+    static const struct { const char *order; int count; uint8_t way; } ways[] = {
+        { "rs232", 3, BOX_WAY_RS232C }, { "kjw", 3, BOX_WAY_KJW }, { "tcp", 3, BOX_WAY_TCP }, { "udp", 1, BOX_WAY_UDP },
+    };
+    for (size_t i = 0; i < sizeof ways / sizeof ways[0]; i++)
+        if (strcmp(order, ways[i].order) == 0 && count == ways[i].count) {
+            take(times, ways[i].way, words);
+            return;
+        }
+    if (strcmp(order, "advert") == 0 && count == 1)
+        read_advert(times, words);
+    else if (strcmp(order, "write") == 0 && count == 16)
+        write_advert(times, words);
     else
         unread();
 }
 
-/* TIMES and an order, which is done so many times. */
-static void make_ready(struct display_box *box, char **words, int count)
-{
-    struct order order;
-    if (count < 2 || !is_message(words + 1, count - 1, &order))
-        unread();
-    uint32_t times = number_of(words[0], UINT32_MAX);
-    for (uint32_t i = 0; i < times; i++)
-        take(box, &order);
-}
-
 int main(int count, char **words)
 {
-    struct display_box box;
-    int from = 2;
-    if (count < 3 || box_configure(&box, panels, sizeof panels) != BOX_DONE)
+    if (count < 3)
         unread();
     uint32_t times = number_of(words[1], UINT32_MAX);
     if (times == 0)
         unread();
-    for (int i = from; i < count; i++)
-        if (strcmp(words[i], ";") == 0) {
-            make_ready(&box, words + from, i - from);
-            from = i + 1;
-        }
-    carry_out(times, &box, from > 2, words + from, count - from);
+    carry_out(times, words[2], words + 3, count - 3);
     putchar('\n');
     return 0;
 }

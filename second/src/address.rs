@@ -15,8 +15,6 @@ pub enum WayIn {
     Kjw(u32),
     Tcp(u32),
     Udp,
-    /// What the host tells of a W panel (document 02, §9).
-    Notice(u32),
 }
 
 /// "version 03h, category 0Bh, community "SONY"".
@@ -40,8 +38,6 @@ pub fn addressed(held: &DisplayBox, way: WayIn, bytes: &[u8]) -> Vec<usize> {
             Some((group, unit)) => by_udp(held, group, unit),
             None => Vec::new(),
         },
-        // Document 02, §9: "both count as addressed to that panel".
-        WayIn::Notice(link) => own_panel(held, link, true),
     }
 }
 

@@ -27,12 +27,6 @@ pub enum Answer {
     StatusByBroadcast,
     /// 9 to 14: this part of a message's envelope is wrong (document 02, §8).
     WrongPart(Part),
-    /// 15: "line full" (document 02, §9).
-    LineFull,
-    /// 16: "busy on RS-232C" (document 02, §9).
-    PanelBusy,
-    /// 17: "a busy notice for a link that is no W panel" (document 02, §9).
-    NoWPanel,
 }
 
 /// Document 02, §8: "Support calls about number 5 take an evening. Split it for messages: request
@@ -62,9 +56,6 @@ impl Answer {
             Answer::BadConfiguration => 7,
             Answer::StatusByBroadcast => 8,
             Answer::WrongPart(part) => part.number(),
-            Answer::LineFull => 15,
-            Answer::PanelBusy => 16,
-            Answer::NoWPanel => 17,
         }
     }
 

@@ -4,7 +4,6 @@
 //! order given; that is also the link number. ... no two W panels share both."
 
 use crate::answer::Answer;
-use crate::busy::Busy;
 use crate::panel::{GroupId, KSettings, Panel, Settings, UnitId, WSettings};
 
 /// The most panels that a box holds.
@@ -80,7 +79,6 @@ fn described(description: &[u8]) -> Option<DisplayBox> {
             group: GroupId(entry[1]),
             unit: UnitId(entry[2]),
             settings,
-            busy: Busy::AT_START,
         });
     }
     Some(DisplayBox { panels })

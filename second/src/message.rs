@@ -6,7 +6,7 @@
 
 use crate::answer::{Answer, Reply};
 use crate::config::DisplayBox;
-use crate::panel::{Panel, Settings};
+use crate::panel::Settings;
 use crate::{kjw, rs232c, sdcp};
 
 /// 1: "reply area under 512 bytes".
@@ -51,17 +51,17 @@ pub fn receive(held: &mut DisplayBox, way: Way<'_>, bytes: &[u8]) -> Outcome {
 /// The answer, and how many bytes of the area's front were written.
 fn receive_in_good_box(held: &mut DisplayBox, way: Way<'_>, bytes: &[u8]) -> (Answer, usize) {
     match way {
-        Way::Rs232c { link, area } => with_area(area, || match panel_of(held, link) {
-            Some((Settings::W(settings), busy)) => rs232c::receive(settings, busy, bytes),
+        Way::Rs232c { link, area } => with_area(area, || match settings_of(held, link) {
+            Some(Settings::W(settings)) => rs232c::receive(settings, bytes),
             _ => Reply::silent(Answer::NoSuchPanel),
         }),
-        Way::Kjw { link, area } => with_area(area, || match panel_of(held, link) {
-            Some((Settings::K(settings), _)) => kjw::receive(settings, bytes),
+        Way::Kjw { link, area } => with_area(area, || match settings_of(held, link) {
+            Some(Settings::K(settings)) => kjw::receive(settings, bytes),
             _ => Reply::silent(Answer::NoSuchPanel),
         }),
         // "Check 2 looks at the link's panel alone" (docs/DECISIONS.md).
-        Way::Tcp { link, area } => with_area(area, || match panel_of(held, link) {
-            Some((Settings::W(_), _)) => sdcp::receive_by_tcp(held, link, bytes),
+        Way::Tcp { link, area } => with_area(area, || match settings_of(held, link) {
+            Some(Settings::W(_)) => sdcp::receive_by_tcp(held, link, bytes),
             _ => Reply::silent(Answer::NoSuchPanel),
         }),
         // "UDP skips 1 and 2."
@@ -69,11 +69,10 @@ fn receive_in_good_box(held: &mut DisplayBox, way: Way<'_>, bytes: &[u8]) -> (An
     }
 }
 
-/// The settings of the panel with this link number, and whether it is busy.
-fn panel_of(held: &mut DisplayBox, link: u32) -> Option<(&mut Settings, bool)> {
+/// The settings of the panel with this link number.
+fn settings_of(held: &mut DisplayBox, link: u32) -> Option<&mut Settings> {
     let place = held.place_of_link(link)?;
-    let Panel { settings, busy, .. } = &mut held.panels[place];
-    Some((settings, busy.mark))
+    Some(&mut held.panels[place].settings)
 }
 
 /// Check 1, then the message itself, then its reply: "A reply fills the front of the area; bytes

@@ -3,7 +3,6 @@
 //! Document 01, "The box and its messages": "Each panel is of family W (speaks RS-232C and SDCP
 //! with VMC text) or family K (speaks KJW frames)."
 
-use crate::busy::Busy;
 use crate::flip::Flip;
 
 /// "A group ID is never taken for a unit ID, though each is one byte."
@@ -346,8 +345,6 @@ pub struct Panel {
     pub group: GroupId,
     pub unit: UnitId,
     pub settings: Settings,
-    /// Document 02, §9: the busy mark, and what waits.
-    pub busy: Busy,
 }
 
 impl Panel {
@@ -357,23 +354,15 @@ impl Panel {
 
     /// The rules that one panel alone can break.
     ///
-    /// "A W panel has a group ID 1 to 99 and a unit ID 1 to 99 ... A K panel has 0 for both." And of
-    /// document 02, §9: "A box handed in with a line or busy mark that these rules can't leave ...
-    /// breaks document 01's rules too."
+    /// "A W panel has a group ID 1 to 99 and a unit ID 1 to 99 ... A K panel has 0 for both."
     pub fn keeps_the_rules(&self) -> bool {
         match &self.settings {
             Settings::W(settings) => {
                 (1..=99).contains(&self.group.0)
                     && (1..=99).contains(&self.unit.0)
                     && settings.in_range()
-                    && self.busy.may_be_of_a_w_panel()
             }
-            Settings::K(settings) => {
-                self.group.0 == 0
-                    && self.unit.0 == 0
-                    && settings.in_range()
-                    && self.busy.may_be_of_a_k_panel()
-            }
+            Settings::K(settings) => self.group.0 == 0 && self.unit.0 == 0 && settings.in_range(),
         }
     }
 }

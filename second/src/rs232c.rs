@@ -11,8 +11,8 @@ const OUR_ADDRESS: u8 = 0x01;
 const ACK: u8 = 0x04;
 const NAK: u8 = 0x05;
 
-/// A message to the RS-232C port of a W panel, which may be busy.
-pub fn receive(settings: &mut WSettings, busy: bool, bytes: &[u8]) -> Reply {
+/// A message to the RS-232C port of a W panel.
+pub fn receive(settings: &mut WSettings, bytes: &[u8]) -> Reply {
     // "Under 6 bytes: 3."
     if bytes.len() < 6 {
         return Reply::silent(Answer::WrongLength);
@@ -26,11 +26,6 @@ pub fn receive(settings: &mut WSettings, busy: bool, bytes: &[u8]) -> Reply {
     // stay as they were".
     if let Some(part) = wrong_part(bytes) {
         return Reply::new(Answer::WrongPart(part), frame(source, &[NAK]));
-    }
-    // Document 02, §9: "By the manuals, a busy panel answers NAK to RS-232C", whatever the command
-    // is. "16 busy on RS-232C, after 14 and before 6".
-    if busy {
-        return Reply::new(Answer::PanelBusy, frame(source, &[NAK]));
     }
     let block = &bytes[4..bytes.len() - 1];
     match carry_out(settings, block[0], &block[1..]) {

@@ -6,7 +6,6 @@ use std::io::{self, BufRead, Write};
 
 use crate::advert::{self, Fields, Wanted};
 use crate::answer::Answer;
-use crate::busy::{self, Notice};
 use crate::checksum;
 use crate::config::{configure, DisplayBox};
 use crate::message::{receive, Way};
@@ -135,8 +134,6 @@ impl Replay {
             }
             Order::Piece { link, area, bytes } => self.piece(link, area, &bytes),
             Order::Plain(bytes) => list_text(&bytes),
-            // A notice has no place (document 02, §8), and no reply.
-            Order::Notice(link, notice) => answer_text(busy::tell(&mut self.held, link, notice), 0),
         }
     }
 
@@ -263,17 +260,10 @@ fn list_text(bytes: &[u8]) -> String {
     words.join(" ")
 }
 
-/// "`show` of a busy panel shows the record as it stands now and ends with ` BUSY N`, N the commands
-/// waiting".
 fn show(panel: &Panel) -> String {
-    let record = match &panel.settings {
+    match &panel.settings {
         Settings::W(settings) => show_w(panel, settings),
         Settings::K(settings) => show_k(settings),
-    };
-    if panel.busy.mark {
-        format!("{record} BUSY {}", panel.busy.line.len())
-    } else {
-        record
     }
 }
 
@@ -338,8 +328,6 @@ enum Order {
         bytes: Vec<u8>,
     },
     Plain(Vec<u8>),
-    /// `busy` or `free` (document 02, §9).
-    Notice(u32, Notice),
 }
 
 struct WriteOrder {
@@ -394,8 +382,6 @@ fn read_order(line: &[u8]) -> Option<Order> {
             bytes: read_hex(bytes)?,
         }),
         [b"plain", bytes] => Some(Order::Plain(read_hex(bytes)?)),
-        [b"busy", link] => Some(Order::Notice(read_number(link)?, Notice::Busy)),
-        [b"free", link] => Some(Order::Notice(read_number(link)?, Notice::Free)),
         _ => None,
     }
 }

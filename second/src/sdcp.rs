@@ -6,7 +6,7 @@
 use crate::address::{addressed, WayIn};
 use crate::answer::{Answer, Part, Reply};
 use crate::config::DisplayBox;
-use crate::panel::{Panel, Settings};
+use crate::panel::{Settings, WSettings};
 use crate::vmc;
 
 /// The bytes before the data.
@@ -35,8 +35,7 @@ pub fn receive_by_tcp(held: &mut DisplayBox, link: u32, bytes: &[u8]) -> Reply {
     let reading = read(held, WayIn::Tcp(link), bytes);
     let reply = match reading.answer {
         Answer::CarriedOut | Answer::NotUnderstood => ok(bytes, &reading.data),
-        // Document 02, §9: "With a full line a further set is dropped, with NG F0h 50h by TCP".
-        Answer::WrongPart(_) | Answer::LineFull => ng(bytes),
+        Answer::WrongPart(_) => ng(bytes),
         _ => Vec::new(),
     };
     Reply::new(reading.answer, reply)
@@ -70,19 +69,15 @@ fn read(held: &mut DisplayBox, way: WayIn, bytes: &[u8]) -> Reading {
     let Some(order) = vmc::read(&bytes[HEADER..]) else {
         return Reading::refused(Answer::NotUnderstood);
     };
-    // Document 02, §9: "By UDP each addressed panel decides for itself, and the answer is 0 if any
-    // took it". By TCP one panel is addressed, on whatever link the packet came.
-    let mut taken = None;
+    let mut data = Vec::new();
     for place in places {
-        taken = carry_out(&mut held.panels[place], &order).or(taken);
+        if let Settings::W(settings) = &mut held.panels[place].settings {
+            data = carry_out(settings, &order);
+        }
     }
-    match taken {
-        Some(data) => Reading {
-            answer: Answer::CarriedOut,
-            data,
-        },
-        // "15 line full, after 6".
-        None => Reading::refused(Answer::LineFull),
+    Reading {
+        answer: Answer::CarriedOut,
+        data,
     }
 }
 
@@ -107,16 +102,14 @@ fn wrong_part(bytes: &[u8]) -> Option<Part> {
     }
 }
 
-/// Has the panel take what the words say; the data that an OK carries comes back, and nothing where
-/// the panel drops it.
-fn carry_out(panel: &mut Panel, order: &vmc::Order) -> Option<Vec<u8>> {
-    let Panel { settings, busy, .. } = panel;
-    let Settings::W(settings) = settings else {
-        return None;
-    };
+/// Does what the words say; the data that an OK carries comes back.
+fn carry_out(settings: &mut WSettings, order: &vmc::Order) -> Vec<u8> {
     match order {
-        vmc::Order::Set(change) => busy.take(settings, *change).then(Vec::new),
-        vmc::Order::Get(name) => Some(vmc::words(&busy.to_come(settings), *name).into_bytes()),
+        vmc::Order::Set(change) => {
+            vmc::set(settings, *change);
+            Vec::new()
+        }
+        vmc::Order::Get(name) => vmc::words(settings, *name).into_bytes(),
     }
 }
 

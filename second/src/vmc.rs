@@ -29,17 +29,6 @@ pub enum Change {
     Flip(FlipWord, bool),
 }
 
-impl Change {
-    /// STATset can write it: no level is over 100, and no shift beyond 30.
-    pub fn in_range(self) -> bool {
-        match self {
-            Change::Phase(level) | Change::Chroma(level) | Change::Volume(level) => level <= 100,
-            Change::ShiftH(shift) | Change::ShiftV(shift) => (-30..=30).contains(&shift),
-            _ => true,
-        }
-    }
-}
-
 /// What a STATget asks for.
 #[derive(Clone, Copy, Debug, PartialEq, Eq)]
 pub enum Name {
@@ -351,34 +340,6 @@ mod tests {
         ] {
             assert!(!asks_for_status(data), "{data:?}");
         }
-    }
-
-    // What STATset can write, and so what can wait in a line (document 02, §9): every level and every
-    // shift that is understood, and no other.
-    #[test]
-    fn changes_that_are_in_range() {
-        for level in 0..=255 {
-            for (name, change) in [
-                ("PHASE", Change::Phase(level)),
-                ("CHROMA", Change::Chroma(level)),
-                ("VOLUME", Change::Volume(level)),
-            ] {
-                let data = format!("STATset {name} {level}");
-                let written = read(data.as_bytes()) == Some(Order::Set(change));
-                assert_eq!(change.in_range(), written, "{data}");
-            }
-        }
-        for shift in i8::MIN..=i8::MAX {
-            for (name, change) in [
-                ("SHIFTH", Change::ShiftH(shift)),
-                ("SHIFTV", Change::ShiftV(shift)),
-            ] {
-                let data = format!("STATset {name} {shift}");
-                let written = read(data.as_bytes()) == Some(Order::Set(change));
-                assert_eq!(change.in_range(), written, "{data}");
-            }
-        }
-        assert!(Change::Reset.in_range());
     }
 
     // Every byte alone behind the words: 20h and 00h are taken off.

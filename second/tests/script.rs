@@ -43,7 +43,7 @@ fn the_last_line_may_lack_its_end() {
 
 #[test]
 fn lines_that_are_unread() {
-    let lines: [&[u8]; 77] = [
+    let lines: [&[u8]; 60] = [
         b" ",
         b" show 1",
         b"show 1 ",
@@ -102,24 +102,7 @@ fn lines_that_are_unread() {
         b"plain 1 -",
         b"Plain -",
         b"plains -",
-        b"busy",
-        b"busy ",
-        b"busy 01",
-        b"busy 1 1",
-        b"busy -",
-        b"busy 1x",
-        b"busy 4294967296",
-        b"Busy 1",
-        b"BUSY 1",
-        b"busy1",
-        b"free",
-        b"free 00",
-        b"free 1 ",
-        b"free +1",
-        b"free 99999999999",
-        b"Free 1",
-        b"frees 1",
-        b"hear -",
+        b"busy 1",
         b"write 122 11 - 0 0 - 0 0 0 0 0 0 - - 1",
     ];
     for line in lines {
@@ -393,115 +376,6 @@ fn plain_stands_beside_the_receivers() {
     assert_eq!(answers(script.as_bytes()), text);
 }
 
-/// The record of a panel that started as W 1/2 and has this volume.
-fn with_volume(volume: u8) -> String {
-    let record = AT_START.trim_end();
-    record.replace("VOLUME 30", &format!("VOLUME {volume}"))
-}
-
-// `busy LINK` and `free LINK` write `answer A`; "`show` of a busy panel shows the record as it
-// stands now and ends with ` BUSY N`, N the commands waiting".
-#[test]
-fn busy_and_free() {
-    let start = with_volume(30);
-    let get = "tcp 1 512 030B534F4E59000000B000000E5354415467657420564F4C554D45";
-    let told = "answer 0 reply 030B534F4E59000001B0000009564F4C554D45203430";
-    let lines = [
-        ("box W 1 2 K 0 0", "box 0"),
-        ("free 1", "answer 0"),
-        ("show 1", &start),
-        ("busy 1", "answer 0"),
-        ("show 1", &format!("{start} BUSY 0")),
-        (&format!("tcp 1 512 {SET}"), OK),
-        ("show 1", &format!("{start} BUSY 1")),
-        (get, told),
-        ("busy 1", "answer 0"),
-        ("show 1", &format!("{start} BUSY 1")),
-        ("rs232 1 512 020301416E4D", "answer 16 reply 0203410105B6"),
-        ("free 1", "answer 0"),
-        ("show 1", &with_volume(40)),
-        ("rs232 1 512 020301416E4D", "answer 0 reply 020441017E013B"),
-    ];
-    let (orders, expected): (Vec<&str>, Vec<&str>) = lines.into_iter().unzip();
-    let written = answers(orders.join("\n").as_bytes());
-    assert_eq!(written.trim_end().lines().collect::<Vec<_>>(), expected);
-}
-
-// With a full line: 15, with NG by TCP. Off the wire the same, and by UDP the number alone; no place.
-#[test]
-fn a_full_line_in_a_script() {
-    let by_udp = SET.replace("59000000B0", "59FFFF00B0");
-    let eight = format!(
-        "{}\n",
-        [SET; 8].map(|set| format!("tcp 1 512 {set}")).join("\n")
-    );
-    let script = [
-        "box W 1 2\nbusy 1\n",
-        &eight,
-        &format!("tcp 1 512 {SET}\npiece 1 512 {SET}\nudp {by_udp}\n"),
-        "show 1\nfree 1\nshow 1\n",
-    ]
-    .concat();
-    let dropped = "answer 15 reply 030B534F4E59000000B0000002F050";
-    let text = [
-        "box 0\nanswer 0\n",
-        &format!("{OK}\n").repeat(8),
-        &format!("{dropped}\npacket {SET}\n{dropped}\nheld 0\nanswer 15\n"),
-        &format!(
-            "{} BUSY 8\nanswer 0\n{}\n",
-            with_volume(30),
-            with_volume(40)
-        ),
-    ]
-    .concat();
-    assert_eq!(answers(script.as_bytes()), text);
-}
-
-// A set off the wire counts when its packet is handed to the box, and not when its first bytes come.
-#[test]
-fn a_set_in_pieces_beside_notices() {
-    let (first, last) = SET.split_at(20);
-    let (start, set) = (with_volume(30), with_volume(40));
-    let handed_out = format!("packet {SET}\n{OK}\nheld 0");
-    for (before, between, record) in [
-        ("free", "busy", format!("{start} BUSY 1")),
-        ("busy", "free", set.clone()),
-        ("busy", "busy", format!("{start} BUSY 1")),
-        ("free", "free", set),
-    ] {
-        let script = format!(
-            "box W 1 2\n{before} 1\npiece 1 512 {first}\n{between} 1\npiece 1 512 {last}\nshow 1\n"
-        );
-        let text = format!("box 0\nanswer 0\nheld 10\nanswer 0\n{handed_out}\n{record}\n");
-        assert_eq!(answers(script.as_bytes()), text);
-    }
-}
-
-// LINK is any N: a notice for a link that is no W panel is 17, and nothing changes. "`box` makes a
-// new box", in which every panel is free.
-#[test]
-fn notices_for_links_that_are_no_w_panel() {
-    for order in ["busy", "free"] {
-        for link in ["0", "1", "8", "9", "4294967295"] {
-            assert_eq!(answers(format!("{order} {link}").as_bytes()), "answer 17\n");
-        }
-    }
-    let text =
-        answers(b"box W 1 2 K 0 0\nbusy 2\nfree 2\nbusy 0\nbusy 3\nbusy 257\nshow 1\nshow 2\n");
-    let refused = "answer 17\n".repeat(5);
-    let k = "K POWR 0 INPT 1 1 VOLU 0 AMUT 0 PMUT 0 SCEN general\n";
-    assert_eq!(text, format!("box 0\n{refused}{AT_START}{k}"));
-
-    let script = format!("box W 1 2\nbusy 1\ntcp 1 512 {SET}\nbox W 1 2\nshow 1\nfree 1\nshow 1\n");
-    let text = format!("box 0\nanswer 0\n{OK}\nbox 0\n{AT_START}answer 0\n{AT_START}");
-    assert_eq!(answers(script.as_bytes()), text);
-    let script = b"box W 1 2\nbusy 1\nbox\nfree 1\nbox W 1 2\nshow 1\n";
-    assert_eq!(
-        answers(script),
-        format!("box 0\nanswer 0\nbox 7\nanswer 17\nbox 0\n{AT_START}")
-    );
-}
-
 #[test]
 fn any_bytes_are_answered_without_a_panic() {
     let mut state: u32 = 1;
@@ -526,17 +400,12 @@ fn any_bytes_are_answered_without_a_panic() {
         "sum",
         "piece 1 512",
         "plain",
-        "busy",
-        "free",
     ] {
         for byte in (0..=255).filter(|byte| *byte != b'\n' && *byte != b'-') {
             let line = [order.as_bytes(), b" ", &[byte]].concat();
-            let expected = match order {
-                "show" if byte.is_ascii_digit() => "none\n",
-                "busy" | "free" if byte.is_ascii_digit() => "answer 17\n",
-                _ => "unread\n",
-            };
-            assert_eq!(answers(&line), expected);
+            let text = answers(&line);
+            let is_link = order == "show" && byte.is_ascii_digit();
+            assert_eq!(text, if is_link { "none\n" } else { "unread\n" });
         }
     }
 }

@@ -2,9 +2,9 @@
  * The calls on boxes, from C: boxes that break the rules, two boxes at once,
  * every way in and every number that is none, every length of message, area and
  * configuration, envelopes of which one part is wrong or several, the codes of the
- * remote control, busy panels and their lines, and the bench examples. Box, message
- * and area stand alone in memory with their exact sizes. What is expected is worked
- * out here, from the documents, and not taken from the box.
+ * remote control, and the bench examples. Box, message and area stand alone in
+ * memory with their exact sizes. What is expected is worked out here, from the
+ * documents, and not taken from the box.
  */
 #include "areas.h"
 #include "messages.h"
@@ -66,8 +66,8 @@ static struct part sdcp_part(const uint8_t *m, size_t n)
     return (struct part){ 0, 0 };
 }
 
-/* "RS-232C NAK" goes with a wrong part and with 6; "16 busy on RS-232C, after 14 and before 6". */
-static struct told rs232c_told(bool is_busy, const uint8_t *m, size_t n)
+/* "RS-232C NAK" goes with a wrong part and with 6. */
+static struct told rs232c_told(const uint8_t *m, size_t n)
 {
     if (n < 6)
         return quiet(3);
@@ -75,7 +75,7 @@ static struct told rs232c_told(bool is_busy, const uint8_t *m, size_t n)
         return quiet(4);
     struct part part = rs232c_part(m, n);
     struct message nak = frame_between(m[3], 0x01, "\x05", 1);
-    return told_at(part.number != 0 ? part.number : is_busy ? 16 : 6, part.place, nak.bytes, nak.length);
+    return told_at(part.number == 0 ? 6 : part.number, part.place, nak.bytes, nak.length);
 }
 
 static struct told kjw_told(const uint8_t *m, size_t n)
@@ -137,32 +137,21 @@ static struct told sdcp_told(const struct display_box *box, uint8_t way, const u
     return told_at(is_whole ? 6 : part.number, part.place, reply, is_whole ? 13 : 15);
 }
 
-static bool is_notice(unsigned way) { return way == BOX_WAY_BUSY || way == BOX_WAY_FREE; }
-
-static bool is_of_family(const struct display_box *box, size_t link, uint8_t family)
-{
-    return link >= 1 && link <= box->count && box->panels[link - 1].family == family;
-}
-
-/*
- * A box that breaks the rules is told as the box of no panels. The numbers that are no way in are 2, by this project's decision.
- * "17 a busy notice for a link that is no W panel, no change."
- */
+/* A box that breaks the rules is told as the box of no panels. The numbers that are no way in are 2, by this project's decision. */
 static struct told told_of(const struct display_box *box, uint8_t way, size_t link, const uint8_t *m, size_t n, size_t room)
 {
     if (way == BOX_WAY_UDP)
         return sdcp_told(box, way, m, n);
-    if (is_notice(way))
-        return quiet(is_of_family(box, link, BOX_FAMILY_W) ? 0 : 17);
-    if (way < BOX_WAY_RS232C || way > BOX_WAY_FREE)
+    if (way < BOX_WAY_RS232C || way > BOX_WAY_UDP)
         return quiet(2);
     if (room < 512)
         return quiet(1);
-    if (!is_of_family(box, link, way == BOX_WAY_KJW ? BOX_FAMILY_K : BOX_FAMILY_W))
+    uint8_t family = way == BOX_WAY_KJW ? BOX_FAMILY_K : BOX_FAMILY_W;
+    if (link < 1 || link > box->count || box->panels[link - 1].family != family)
         return quiet(2);
     if (way == BOX_WAY_TCP)
         return sdcp_told(box, way, m, n);
-    return way == BOX_WAY_KJW ? kjw_told(m, n) : rs232c_told(box->panels[link - 1].line.busy == 1, m, n);
+    return way == BOX_WAY_KJW ? kjw_told(m, n) : rs232c_told(m, n);
 }
 
 /* ---- a message is handed over */
@@ -200,16 +189,6 @@ static void refuses(const struct display_box *box, const struct display_box *tol
 {
     struct told want = told_of(told_as, way, link, bytes, n, room);
     takes(box, way, link, bytes, n, room, &want, box);
-}
-
-/* "telling it twice changes nothing": a notice to a panel with nothing waiting, whatever message and area are. */
-static void notices(const struct display_box *box, uint8_t way, size_t link, const uint8_t *bytes, size_t n, size_t room)
-{
-    struct told want = told_of(box, way, link, bytes, n, room);
-    struct display_box after = *box;
-    if (want.answer == 0)
-        after.panels[link - 1].line.busy = way == BOX_WAY_BUSY;
-    takes(box, way, link, bytes, n, room, &want, &after);
 }
 
 static void shows(const struct display_box *box, size_t link, const struct box_panel *want)
@@ -288,7 +267,7 @@ static void every_length(void)
 /* The larger ones are links of a panel where 8 or 32 bits are kept, or where the place's offset wraps. */
 static const size_t links[] = { 0, 1, 2, 3, 8, 9, 257, ((size_t)1 << 32) + 1, SIZE_MAX / sizeof(struct box_panel) + 2, SIZE_MAX };
 
-/* Every number for a way but the notices', on every link, in areas that are too small and in some that are not. */
+/* Every number for a way, on every link, in areas that are too small and in some that are not. */
 static void every_way(void)
 {
     static const size_t rooms[] = { 0, 1, 511, 512, 600 };
@@ -297,8 +276,6 @@ static void every_way(void)
         for (size_t l = 0; l < LENGTH_OF(links); l++)
             for (size_t r = 0; r < LENGTH_OF(rooms); r++) {
                 struct message none = sdcp_packet(0, 0, ""), set = sdcp_packet(0, 0, "STATset VOLUME 40");
-                if (is_notice(way))
-                    continue;
                 refuses(&box, &box, (uint8_t)way, links[l], none.bytes, none.length, rooms[r]);
                 refuses(&box, &box, (uint8_t)way, links[l], none.bytes, 0, rooms[r]);
                 if (way < BOX_WAY_RS232C || way > BOX_WAY_UDP)
@@ -451,11 +428,10 @@ static void envelopes(void)
     }
 }
 
-/* Frames of every length: byte counts that are right or not, each beside a checksum that is and one that is not; to a busy panel too. */
+/* Frames of every length: byte counts that are right or not, each beside a checksum that is and one that is not. */
 static void every_frame(void)
 {
-    struct display_box box = box_of("WK"), busy = box;
-    busy.panels[0].line.busy = 1;
+    struct display_box box = box_of("WK");
     for (size_t n = 6; n <= 260; n++) {
         const size_t counts[] = { n - 3, n - 2, n - 4, 0, 255 };
         for (size_t c = 0; c < LENGTH_OF(counts); c++)
@@ -465,7 +441,6 @@ static void every_frame(void)
                 m.bytes[1] = (uint8_t)counts[c];
                 m.bytes[n - 1] = (uint8_t)(checksum_of(m.bytes + 1, n - 2) + off);
                 refuses_everywhere(&box, BOX_WAY_RS232C, &m);
-                refuses_everywhere(&busy, BOX_WAY_RS232C, &m);
             }
     }
 }
@@ -519,31 +494,26 @@ static void break_a_rule(struct display_box *box, size_t rule)
 }
 #define RULES 22
 
-/* Through every way in, with messages that a box that keeps the rules would carry out, and such as are too short; and by a look. */
-static void has_no_panel_at(const struct display_box *box, size_t link, size_t room)
+/* Through every way in, with messages that a box that keeps the rules would carry out, and such as are too short. */
+static void is_a_box_of_no_panels(const struct display_box *box)
 {
+    static const size_t rooms[] = { 0, 511, 512, 600 };
+    static const struct box_panel none;
     const struct message sent[] = {
         [BOX_WAY_RS232C] = rs232c_frame("\x22\x12", 2),
         [BOX_WAY_KJW] = kjw_frame("CPOWR0000000000000001"),
         [BOX_WAY_TCP] = sdcp_packet(0, 0, "STATset VOLUME 40"),
         [BOX_WAY_UDP] = sdcp_packet(0xFF, 0xFF, "STATset VOLUME 40"),
-        [BOX_WAY_BUSY] = sdcp_packet(0, 0, "STATset VOLUME 40"),
-        [BOX_WAY_FREE] = sdcp_packet(0, 0, "STATset VOLUME 40"),
     };
-    for (uint8_t way = BOX_WAY_RS232C; way <= BOX_WAY_FREE; way++) {
-        refuses(box, &no_panels, way, link, sent[way].bytes, sent[way].length, room);
-        refuses(box, &no_panels, way, link, sent[way].bytes, 5, room);
-        refuses(box, &no_panels, way, link, NULL, 0, room);
-    }
-    shows(box, link, &no_panels.panels[0]);
-}
-
-static void is_a_box_of_no_panels(const struct display_box *box)
-{
-    static const size_t rooms[] = { 0, 511, 512, 600 };
+    for (uint8_t way = BOX_WAY_RS232C; way <= BOX_WAY_UDP; way++)
+        for (size_t l = 0; l < LENGTH_OF(links); l++)
+            for (size_t r = 0; r < LENGTH_OF(rooms); r++) {
+                refuses(box, &no_panels, way, links[l], sent[way].bytes, sent[way].length, rooms[r]);
+                refuses(box, &no_panels, way, links[l], sent[way].bytes, 5, rooms[r]);
+                refuses(box, &no_panels, way, links[l], NULL, 0, rooms[r]);
+            }
     for (size_t l = 0; l < LENGTH_OF(links); l++)
-        for (size_t r = 0; r < LENGTH_OF(rooms); r++)
-            has_no_panel_at(box, links[l], rooms[r]);
+        shows(box, links[l], &none);
 }
 
 static void broken_boxes(void)
@@ -651,7 +621,7 @@ static void random_message(struct display_box *box, uint32_t *seed)
     static const uint8_t blocks[][4] = { { 0x22, 0x12 }, { 0x22, 0x30 }, { 0x21, 0x03, 0x28 }, { 0x40, 0x01, 0x34, 0x02 } };
     static const size_t block_lengths[] = { 2, 2, 3, 4 };
     state = *seed;
-    uint8_t way = (uint8_t)(1 + next() % 6);
+    uint8_t way = (uint8_t)(1 + next() % 4);
     size_t link = next() % 6, which = next() % 4;
     struct message m = kjw_frame(frames[which]);
     if (way == BOX_WAY_RS232C)
@@ -779,299 +749,6 @@ static void every_code(void)
     }
 }
 
-/* ---- busy panels and their lines (document 02, §9) */
-
-/* The greatest value behind each name: three levels, MODE, the choices and switches, the flip words, two shifts and 30, RESET. */
-static const uint8_t mosts[] = { 100, 100, 100, 2, 1, 1, 1, 1, 1, 1, 1, 1, 1, 1, 1, 1, 1, 1, 1, 1, 1, 60, 60, 0 };
-_Static_assert(sizeof mosts == BOX_WAITING_NAMES, "a greatest value of each name");
-
-/* A busy mark and so many sets of that name and value, zeros behind them. */
-static struct box_line line_of(size_t count, unsigned name, unsigned value)
-{
-    struct box_line line = { 1, (uint8_t)count, { 0 }, { 0 } };
-    memset(line.names, (int)name, count);
-    memset(line.values, (int)value, count);
-    return line;
-}
-
-/* The first panel is of family W and the second of family K. */
-static struct display_box box_with(size_t place, struct box_line line)
-{
-    struct display_box box = box_of("WKWKWKWW");
-    box.panels[place].line = line;
-    return box;
-}
-
-/* A line that the rules leave: the panel is shown as it is, and told that it is busy it stays so. */
-static void is_a_good_line(struct box_line line)
-{
-    struct display_box box = box_with(0, line);
-    struct told done = quiet(0);
-    shows(&box, 1, &box.panels[0]);
-    takes(&box, BOX_WAY_BUSY, 1, NULL, 0, 0, &done, &box);
-}
-
-/* A line that they can't leave is a box of no panels; in an unused place it is not judged, and keeps every bit. */
-static void is_a_bad_line(size_t place, struct box_line line)
-{
-    static const size_t few[] = { 0, 1, 2, 8, 9 };
-    struct display_box box = box_with(place, line), after;
-    struct told done = quiet(0);
-    struct message m = sdcp_packet(0xFF, 0xFF, "STATset VOLUME 40");
-    for (size_t l = 0; l < LENGTH_OF(few); l++)
-        has_no_panel_at(&box, few[l], BOX_AREA_LENGTH);
-    has_no_panel_at(&box, 1, 0);
-    box = box_of("WK");
-    for (size_t i = box.count; i < BOX_PANELS; i++) {
-        box.panels[i].family = place == 0 ? BOX_FAMILY_W : BOX_FAMILY_K;
-        box.panels[i].line = line;
-    }
-    after = box;
-    after.panels[0].w.settings[BOX_VOLUME] = 40;
-    takes(&box, BOX_WAY_UDP, 0, m.bytes, m.length, 0, &done, &after);
-    notices(&box, BOX_WAY_BUSY, 1, NULL, 0, 0);
-    notices(&box, BOX_WAY_FREE, 1, NULL, 0, 0);
-    notices(&box, BOX_WAY_BUSY, 3, NULL, 0, 0);
-    for (size_t link = 1; link <= 3; link++)
-        shows(&box, link, link <= box.count ? &box.panels[link - 1] : &no_panels.panels[0]);
-}
-
-/* The line with another byte at that place. */
-static struct box_line with_line_byte(struct box_line line, size_t at, uint8_t byte)
-{
-    ((uint8_t *)&line)[at] = byte;
-    return line;
-}
-
-/* Marks, numbers, and a free panel with something waiting. */
-static void bad_marks(void)
-{
-    static const struct box_line none;
-    for (size_t n = 0; n <= BOX_WAITING; n++) {
-        struct box_line line = line_of(n, BOX_VOLUME, 40);
-        is_a_bad_line(0, with_line_byte(line, 0, 2));
-        is_a_bad_line(0, with_line_byte(line, 0, 255));
-        is_a_bad_line(0, with_line_byte(line, 1, 9));
-        is_a_bad_line(0, with_line_byte(line, 1, 255));
-        if (n > 0)
-            is_a_bad_line(0, with_line_byte(line, 0, 0));
-    }
-    for (size_t at = 1; at < sizeof none; at++) {
-        is_a_bad_line(0, with_line_byte(none, at, 1));
-        is_a_bad_line(0, with_line_byte(none, at, 255));
-    }
-}
-
-/* "a busy K panel", and any byte of its line; also with a line that a W panel may have. */
-static void bad_k_lines(void)
-{
-    static const struct box_line none;
-    for (size_t at = 0; at < sizeof none; at++) {
-        is_a_bad_line(1, with_line_byte(none, at, 1));
-        is_a_bad_line(1, with_line_byte(none, at, 255));
-    }
-    for (size_t n = 1; n <= BOX_WAITING; n++) {
-        is_a_bad_line(1, line_of(n, BOX_VOLUME, 40));
-        is_a_bad_line(1, with_line_byte(line_of(n, BOX_VOLUME, 40), 0, 0));
-    }
-}
-
-/* Each name at its greatest value and one over it, and names that are none, at the first place, in the midst and at the last. */
-static void bad_sets(void)
-{
-    for (size_t n = 1; n <= BOX_WAITING; n++) {
-        struct box_line line = line_of(n, BOX_VOLUME, 40);
-        for (size_t place = 0; place < n; place += n == 1 ? 1 : n - 1) {
-            for (uint8_t name = 0; name < sizeof mosts; name++) {
-                line.names[place] = name;
-                line.values[place] = mosts[name];
-                is_a_good_line(line);
-                line.values[place]++;
-                is_a_bad_line(0, line);
-            }
-            line.values[place] = 0;
-            line.names[place] = BOX_WAITING_NAMES;
-            is_a_bad_line(0, line);
-            line.names[place] = 255;
-            is_a_bad_line(0, line);
-            line = line_of(n, BOX_VOLUME, 40);
-        }
-    }
-}
-
-/* A byte at each place behind those that wait, be it a set or not. */
-static void bad_ends(void)
-{
-    for (size_t n = 0; n < BOX_WAITING; n++)
-        for (size_t place = n; place < BOX_WAITING; place++) {
-            struct box_line line = line_of(n, BOX_VOLUME, 40);
-            is_a_good_line(line);
-            is_a_bad_line(0, with_line_byte(line, offsetof(struct box_line, names) + place, 1));
-            is_a_bad_line(0, with_line_byte(line, offsetof(struct box_line, values) + place, 1));
-            line.names[place] = BOX_VOLUME;
-            line.values[place] = 255;
-            is_a_bad_line(0, line);
-        }
-}
-
-/* Links, messages and areas of every sort: message and area are not looked at. */
-static void every_notice(void)
-{
-    static const size_t rooms[] = { 0, 1, 511, 512, 600 }, lengths[] = { 0, 1, 6, 13, 24, 30, LONGEST };
-    static uint8_t bytes[LONGEST];
-    struct message set = sdcp_packet(0, 0, "STATset VOLUME 40"), broadcast = sdcp_packet(0xFF, 0xFF, "STATset VOLUME 40");
-    randomise(bytes, sizeof bytes);
-    for (size_t l = 0; l < 10 + LENGTH_OF(links); l++)
-        for (uint8_t way = BOX_WAY_BUSY; way <= BOX_WAY_FREE; way++) {
-            size_t link = l < 10 ? l : links[l - 10];
-            struct display_box box = box_of("WKWKWKW"), busy = box;
-            for (size_t i = 0; i < busy.count; i += 2)
-                busy.panels[i].line.busy = 1;
-            for (size_t r = 0; r < LENGTH_OF(rooms); r++) {
-                for (size_t n = 0; n < LENGTH_OF(lengths); n++)
-                    notices(&box, way, link, bytes, lengths[n], rooms[r]);
-                notices(&box, way, link, set.bytes, set.length, rooms[r]);
-                notices(&busy, way, link, broadcast.bytes, broadcast.length, rooms[r]);
-                notices(&no_panels, way, link, NULL, 0, rooms[r]);
-            }
-        }
-}
-
-/* The two calls by their names. */
-static void notices_by_name(void)
-{
-    struct display_box box = box_of("WK"), free_box = box, busy_box = box;
-    busy_box.panels[0].line.busy = 1;
-    for (int turn = 0; turn < 2; turn++) {
-        struct box_outcome o = box_busy(&box, 1);
-        expect(o.answer == 0 && o.place == 0 && o.length == 0, "busy", o.answer, turn);
-        expect(is_same(&box, &busy_box, sizeof box), "a busy panel", turn, 0);
-    }
-    for (int turn = 0; turn < 2; turn++) {
-        struct box_outcome o = box_free(&box, 1);
-        expect(o.answer == 0 && o.place == 0 && o.length == 0, "free", o.answer, turn);
-        expect(is_same(&box, &free_box, sizeof box), "a free panel", turn, 0);
-    }
-    expect(box_busy(&box, 2).answer == 17 && box_free(&box, 2).answer == 17, "a K panel", 0, 0);
-    expect(box_busy(&box, 0).answer == 17 && box_free(&box, 3).answer == 17, "no panel", 0, 0);
-    expect(is_same(&box, &free_box, sizeof box), "and no change", 0, 0);
-}
-
-/* "a busy panel answers NAK to RS-232C": every code with its own parameters and others, from the first source and the last. */
-static void every_code_while_busy(void)
-{
-    static const uint8_t parameters[][3] = { { 0x00, 0x00, 0x00 }, { 0x01, 0x02, 0x03 }, { 0x12, 0x34, 0x02 }, { 0x03, 0x32, 0x00 } };
-    struct display_box boxes[2] = { box_with(0, line_of(0, 0, 0)), box_with(0, line_of(8, BOX_VOLUME, 40)) };
-    for (unsigned code = 0; code < 256; code++)
-        for (size_t p = 0; p < LENGTH_OF(parameters); p++)
-            for (size_t n = 1; n <= 4; n++) {
-                uint8_t block[4] = { (uint8_t)code }, source = p % 2 == 0 ? 0x41 : 0x7F;
-                memcpy(block + 1, parameters[p], 3);
-                struct message m = frame_between(0x01, source, block, n), nak = frame_between(source, 0x01, "\x05", 1);
-                struct told want = told(16, nak.bytes, nak.length);
-                takes(&boxes[p % 2], BOX_WAY_RS232C, 1, m.bytes, m.length, BOX_AREA_LENGTH, &want, &boxes[p % 2]);
-            }
-}
-
-/* "By UDP each addressed panel decides for itself, and the answer is 0 if any took it." */
-static void broadcast_to(const struct display_box *box, uint8_t group, unsigned volume)
-{
-    struct display_box after = *box;
-    int took = 0;
-    for (size_t i = 0; i < box->count; i++) {
-        struct box_panel *p = &after.panels[i];
-        if (p->family != BOX_FAMILY_W || (group != 0xFF && p->group.id != group) || p->line.count == BOX_WAITING)
-            continue;
-        took = 1;
-        if (p->line.busy == 0) {
-            p->w.settings[BOX_VOLUME] = (uint8_t)volume;
-            continue;
-        }
-        p->line.names[p->line.count] = BOX_VOLUME;
-        p->line.values[p->line.count++] = (uint8_t)volume;
-    }
-    char data[32];
-    sprintf(data, "STATset VOLUME %u", volume);
-    struct message set = sdcp_packet(group, 0xFF, data), ask = sdcp_packet(group, 0xFF, "STATget VOLUME"), bad = sdcp_packet(group, 0xFF, "STATset");
-    struct told want = quiet(took ? 0 : 15);
-    takes(box, BOX_WAY_UDP, 0, set.bytes, set.length, 0, &want, &after);
-    refuses(box, box, BOX_WAY_UDP, 0, ask.bytes, ask.length, 0);
-    refuses(box, box, BOX_WAY_UDP, 0, bad.bytes, bad.length, 0);
-}
-
-/* Four W panels, of which two share a group, each free, busy with nothing, with seven or with eight waiting, beside a K panel. */
-static void every_mix(void)
-{
-    static const size_t waiting[] = { 0, 0, 7, 8 };
-    for (unsigned mix = 0; mix < 256; mix++) {
-        struct display_box box = box_of("WKWWW");
-        box.panels[3].group = box.panels[2].group;
-        for (size_t i = 0, w = 0; i < box.count; i++) {
-            if (box.panels[i].family != BOX_FAMILY_W)
-                continue;
-            unsigned state_of = mix >> 2 * w++ & 3;
-            if (state_of > 0)
-                box.panels[i].line = line_of(waiting[state_of], BOX_PHASE, 9);
-        }
-        broadcast_to(&box, 0xFF, 40);
-        broadcast_to(&box, 13, 0);
-        broadcast_to(&box, 11, 100);
-    }
-}
-
-/* Hands a packet to a box that stays, and gives what became of it; the area behind the reply is looked at. */
-static void hands(struct display_box *box, uint8_t group, const char *data, uint8_t answer, const char *reply, size_t length)
-{
-    struct message m = sdcp_packet(group, group, data);
-    bool by_udp = group == 0xFF;
-    uint8_t *area = stand_filled(&area_place, 0xA5, BOX_AREA_LENGTH);
-    struct box_outcome o = box_take(box, by_udp ? BOX_WAY_UDP : BOX_WAY_TCP, 1, m.bytes, m.length, area, BOX_AREA_LENGTH);
-    expect(o.answer == answer && o.place == 0, "answer, and the one expected", o.answer, answer);
-    expect(o.length == length && is_same(area, reply, length), "the reply", (long)o.length, (long)length);
-    expect(is_filled(area + length, BOX_AREA_LENGTH - length, 0xA5), "the area behind the reply", answer, (long)length);
-}
-
-/*
- * "a line emptied and filled any number of times still takes 8": by TCP and by UDP
- * in turns. A ninth is dropped, a bad one is 6 all the same, and the panel says what
- * it will stand at, while its record stands as it was.
- */
-static void fill_and_empty(struct display_box *box, unsigned round)
-{
-    static const char ok[] = "\x03\x0BSONY\0\0\1\xB0\0\0\0", ng[] = "\x03\x0BSONY\0\0\0\xB0\0\0\2\xF0\x50";
-    struct display_box before = *box;
-    char data[32], said[32] = "\x03\x0BSONY\0\0\1\xB0\0\0";
-    expect(box_busy(box, 1).answer == 0, "busy", (long)round, 0);
-    for (unsigned i = 0; i < BOX_WAITING; i++) {
-        sprintf(data, "STATset VOLUME %u", (round + i) % 101);
-        if ((round + i) % 2 == 0)
-            hands(box, 0x00, data, 0, ok, 13);
-        else
-            hands(box, 0xFF, data, 0, "", 0);
-        expect(box->panels[0].line.count == i + 1, "one more waits", (long)round, (long)i);
-    }
-    struct display_box full = *box;
-    hands(box, 0x00, "STATset VOLUME 50", 15, ng, 15);
-    hands(box, 0xFF, "STATset VOLUME 50", 15, "", 0);
-    hands(box, 0x00, "STATset RESET", 15, ng, 15);
-    hands(box, 0x00, "STATset VOLUME 101", 6, ok, 13);
-    said[12] = (char)sprintf(said + 13, "VOLUME %u", (round + 7) % 101);
-    hands(box, 0x00, "STATget VOLUME", 0, said, 13 + (size_t)said[12]);
-    expect(is_same(box, &full, sizeof full), "a full line stays as it is", (long)round, 0);
-    expect(is_same(&box->panels[0].w, &before.panels[0].w, sizeof before.panels[0].w), "the record stands as it was", (long)round, 0);
-    expect(box_free(box, 1).answer == 0, "free", (long)round, 0);
-    before.panels[0].w.settings[BOX_VOLUME] = (uint8_t)((round + 7) % 101);
-    expect(is_same(box, &before, sizeof before), "the last one stands, and the line is empty", (long)round, 0);
-    hands(box, 0x00, "STATget VOLUME", 0, said, 13 + (size_t)said[12]);
-}
-
-static void a_thousand_runs(void)
-{
-    struct display_box start = box_of("WK"), *box = stand_copy(&box_place, &start, sizeof start);
-    for (unsigned round = 0; round < 1000; round++)
-        fill_and_empty(box, round);
-}
-
 /* ---- what was tried at the bench */
 
 static void nothing(struct display_box *b) { (void)b; }
@@ -1148,15 +825,6 @@ int main(void)
         configurations();
         two_boxes();
         every_code();
-        bad_marks();
-        bad_k_lines();
-        bad_sets();
-        bad_ends();
-        every_notice();
-        notices_by_name();
-        every_code_while_busy();
-        every_mix();
-        a_thousand_runs();
         at_the_bench();
     }
     return verdict();

@@ -5,7 +5,7 @@
  * the archive does: where the start values stand, which bytes a message sets,
  * which bytes are judged, which bytes a piece sets in a receiver, and which a
  * buffer sets in a listing. What is expected is document 01's, and of receivers,
- * listings, the flip and busy panels document 02's.
+ * listings and the flip document 02's.
  */
 #include "areas.h"
 #include "messages.h"
@@ -15,7 +15,7 @@
 #define AT(record, field, sum) _Static_assert(offsetof(struct record, field) == (sum), #record "." #field)
 #define SIZE(record, sum) _Static_assert(sizeof(struct record) == (sum), #record)
 
-_Static_assert(BOX_LAYOUT == 3, "the number of the sizes and offsets of a box: another sum, another number");
+_Static_assert(BOX_LAYOUT == 2, "the number of the sizes and offsets of a box: another sum, another number");
 _Static_assert(BOX_PANELS == 8 && BOX_CONNECTORS == 10, "panels and connectors");
 _Static_assert(BOX_SETTINGS == 3 + 3 + 12 + 1 && BOX_SHIFTS == 2, "levels, choices, switches and the flip; shifts");
 _Static_assert(BOX_FAMILY_W == 'W' && BOX_FAMILY_K == 'K', "families");
@@ -51,26 +51,17 @@ AT(box_k_record, kind, 5);
 AT(box_k_record, port, 6);
 SIZE(box_k_record, 6 + 2);
 
-AT(box_line, busy, 0);
-AT(box_line, count, 1);
-AT(box_line, names, 1 + 1);
-AT(box_line, values, 1 + 1 + 8);
-SIZE(box_line, 1 + 1 + 8 + 8);
-_Static_assert(BOX_WAITING == 8 && BOX_WAITING_FLIPHV == 20, "a line of 8, and the names of the settings");
-_Static_assert(BOX_WAITING_SHIFTH == 21 && BOX_WAITING_SHIFTV == 22 && BOX_WAITING_RESET == 23, "the names behind them");
-
 AT(box_panel, family, 0);
 AT(box_panel, group, 1);
 AT(box_panel, unit, 1 + 1);
 AT(box_panel, spare, 1 + 1 + 1);
 AT(box_panel, w, 1 + 1 + 1 + 1);
 AT(box_panel, k, 4 + 46);
-AT(box_panel, line, 4 + 46 + 8);
-SIZE(box_panel, 4 + 46 + 8 + 18);
+SIZE(box_panel, 4 + 46 + 8);
 
 AT(display_box, count, 0);
 AT(display_box, panels, 8);
-SIZE(display_box, 8 + 8 * 76);
+SIZE(display_box, 8 + 8 * 58);
 _Static_assert(_Alignof(struct display_box) == 8, "a box is aligned as its count");
 
 /*
@@ -123,11 +114,6 @@ struct field {
 #define BIAS(field) { SPOT(field), 1, -1024, 1023, 0, 0 }
 #define BIT(v) (1UL << (v))
 
-/* The line of a panel with nothing waiting: all zeros, but that a W panel may be busy so. */
-#define ZERO(field) CHOICE(field, 0, 0)
-#define ZEROS(list) ZERO(list[0]), ZERO(list[1]), ZERO(list[2]), ZERO(list[3]), ZERO(list[4]), ZERO(list[5]), ZERO(list[6]), ZERO(list[7])
-#define LINE(most) CHOICE(line.busy, most, 0), ZERO(line.count), ZEROS(line.names), ZEROS(line.values)
-
 static const struct field w_fields[] = {
     LEVEL(w.settings[BOX_PHASE], 50),
     LEVEL(w.settings[BOX_CHROMA], 50),
@@ -162,7 +148,6 @@ static const struct field w_fields[] = {
     SWITCH(w.inputs.on[7], 1),
     SWITCH(w.inputs.on[8], 1),
     SWITCH(w.inputs.on[9], 1),
-    LINE(1),
     GAIN(w.balance.gains[0]),
     GAIN(w.balance.gains[1]),
     GAIN(w.balance.gains[2]),
@@ -180,7 +165,6 @@ static const struct field k_fields[] = {
     CHOICE(k.scene, 2, 2),
     { SPOT(k.kind), 0, 1, 5, BIT(2), 1 },
     { SPOT(k.port), 0, 1, 9999, 0, 1 },
-    LINE(0),
 };
 
 /* The IDs: "1 to 99" of a W panel, "0 for both" of a K panel. */
@@ -456,79 +440,6 @@ static void messages_set(const char *letters)
     }
 }
 
-/* ---- which bytes a set that waits lays */
-
-/* A set of each name, in the order of the names' numbers, with the value that waits. No value but RESET's is 0. */
-static const struct { const char *words; long value; } sets_of_names[] = {
-    { "PHASE 7", 7 }, { "CHROMA 100", 100 }, { "VOLUME 99", 99 }, { "MODE2", 2 }, { "NTSC75", 1 }, { "RGB RANGE LIMITED", 1 },
-    { "REMOTE ON", 1 }, { "POWERSAVING ON", 1 }, { "KEYINHIBIT ON", 1 }, { "TALLYGREEN ON", 1 }, { "TALLYRED ON", 1 }, { "HVDELAY ON", 1 },
-    { "BLUEONLY ON", 1 }, { "MONOCHR ON", 1 }, { "CAMERA FOCUS ON", 1 }, { "LED ON", 1 }, { "SCREENSAVER ON", 1 }, { "SILENTMODE ON", 1 },
-    { "FLIPH ON", 1 }, { "FLIPV ON", 1 }, { "FLIPHV ON", 1 }, { "SHIFTH +30", 60 }, { "SHIFTV -29", 1 }, { "RESET", 0 },
-};
-#define NAMES (sizeof sets_of_names / sizeof sets_of_names[0])
-_Static_assert(NAMES == BOX_WAITING_NAMES, "a set of each name");
-
-/* The greatest value behind each name. */
-static uint8_t most_of(size_t name)
-{
-    return name < 3 ? 100 : name == BOX_MODE ? 2 : name < BOX_WAITING_SHIFTH ? 1 : name < BOX_WAITING_RESET ? 60 : 0;
-}
-
-/* The line as it lies in memory: the mark, the number of those that wait, eight names and eight values. */
-static void lay_line(struct box_panel *panel, uint8_t busy, uint8_t count, const uint8_t *names, const uint8_t *values)
-{
-    uint8_t *bytes = (uint8_t *)panel + 58;
-    bytes[0] = busy;
-    bytes[1] = count;
-    memcpy(bytes + 2, names, 8);
-    memcpy(bytes + 10, values, 8);
-}
-
-static void tells_notice(struct display_box *box, uint8_t way, size_t link)
-{
-    int answer = box_take(box, way, link, NULL, 0, NULL, 0).answer;
-    expect(answer == 0, "a notice is taken", answer, (long)link);
-}
-
-/*
- * Eight sets to a busy panel, whose names follow each other from this one on: each
- * lays its name and its value at the next place. Then the panel is free, the line
- * all zeros, and the record that of a panel that was never busy.
- */
-static void sets_wait(struct display_box *box, size_t link, size_t first)
-{
-    uint8_t area[BOX_AREA_LENGTH], names[8] = { 0 }, values[8] = { 0 };
-    struct display_box at_once = *box, want = *box;
-    struct box_panel *panel = &want.panels[link - 1];
-    tells_notice(box, BOX_WAY_BUSY, link);
-    lay_line(panel, 1, 0, names, values);
-    expect(memcmp(box, &want, sizeof want) == 0, "a notice sets the mark alone", (long)link, (long)first);
-    for (size_t place = 0; place < 8; place++) {
-        char data[64];
-        size_t name = (first + place) % NAMES;
-        snprintf(data, sizeof data, "STATset %s", sets_of_names[name].words);
-        struct message m = sdcp_packet(0, 0, data);
-        int answer = box_take_tcp(box, link, m.bytes, m.length, area, sizeof area).answer;
-        expect(answer == 0, "a set is put in the line", answer, (long)name);
-        names[place] = (uint8_t)name;
-        values[place] = (uint8_t)sets_of_names[name].value;
-        lay_line(panel, 1, (uint8_t)(place + 1), names, values);
-        expect(memcmp(box, &want, sizeof want) == 0, "a set that waits", (long)name, (long)place);
-        box_take_tcp(&at_once, link, m.bytes, m.length, area, sizeof area);
-    }
-    tells_notice(box, BOX_WAY_FREE, link);
-    expect(memcmp(box, &at_once, sizeof want) == 0, "those that waited are carried out", (long)link, (long)first);
-}
-
-/* Every name at every place, on every W panel. */
-static void lines_hold(const char *letters)
-{
-    struct display_box box = box_of(letters);
-    for (size_t link = 1; link <= BOX_PANELS; link++)
-        for (size_t first = 0; letters[link - 1] == 'W' && first < NAMES; first++)
-            sets_wait(&box, link, first);
-}
-
 /* ---- which bytes are judged */
 
 /* A box that keeps the rules shows each panel as it lies there; another shows no panel at all. */
@@ -602,46 +513,6 @@ static void judges_panels(const char *letters)
         for (size_t i = 0; i < 3; i++)
             judges_free_bytes(&box, place, family->free[i]);
     }
-}
-
-/* One byte of a busy panel's line with every value; of a name or a value, where so many wait. */
-static void judges_line_byte(struct display_box *box, size_t at, size_t waiting)
-{
-    struct box_panel *panel = &box->panels[0];
-    uint8_t *byte = (uint8_t *)panel + 58 + at, kept = *byte;
-    for (int v = 0; v < 256; v++) {
-        *byte = (uint8_t)v;
-        size_t place = at < 10 ? at - 2 : at - 10, name = panel->line.names[place], value = panel->line.values[place];
-        int is_good = place < waiting ? name < NAMES && value <= most_of(name) : name == 0 && value == 0;
-        judged(box, is_good, "a line judged", (long)at, v);
-    }
-    *byte = kept;
-}
-
-/* A busy panel's line with so many waiting, all of that name with its greatest value: the mark, the number, each name and each value. */
-static void judges_line(struct display_box *box, size_t waiting, size_t name)
-{
-    uint8_t names[8] = { 0 }, values[8] = { 0 };
-    memset(names, (int)name, waiting);
-    memset(values, most_of(name), waiting);
-    for (int v = 0; v < 256; v++) {
-        lay_line(&box->panels[0], (uint8_t)v, (uint8_t)waiting, names, values);
-        judged(box, v == 1 || (v == 0 && waiting == 0), "the mark judged", v, (long)waiting);
-        lay_line(&box->panels[0], 1, (uint8_t)v, names, values);
-        /* behind those that wait stand zeros, which as sets are PHASE 0 */
-        judged(box, v <= 8 && (size_t)v >= waiting, "the number judged", v, (long)waiting);
-    }
-    lay_line(&box->panels[0], 1, (uint8_t)waiting, names, values);
-    for (size_t at = 2; at < 18; at++)
-        judges_line_byte(box, at, waiting);
-}
-
-static void judges_lines(void)
-{
-    struct display_box box = box_of("WKWWWWWW");
-    for (size_t waiting = 0; waiting <= 8; waiting++)
-        for (size_t name = 0; name < NAMES; name++)
-            judges_line(&box, waiting, name);
 }
 
 /* Places behind the last panel hold any bits; a count is 1 to 8. */
@@ -788,12 +659,10 @@ int main(void)
     for (size_t i = 0; i < 2; i++) {
         starts(mixed[i]);
         messages_set(mixed[i]);
-        lines_hold(mixed[i]);
         judges_panels(mixed[i]);
         judges_count(mixed[i]);
     }
     judges_pairs();
-    judges_lines();
     receivers_hold();
     receivers_claim();
     for (size_t packets = 0; packets <= 65; packets++) {

@@ -71,11 +71,8 @@ static void put_w(const struct box_panel *p)
     for (size_t i = 0; i < BOX_CONNECTORS; i++)
         if (p->w.inputs.on[i] == 1)
             printf(" %d", connector_codes[i]);
-    printf(" PRESET %d GAIN %d %d %d BIAS %d %d %d", p->w.inputs.preset, b->gains[0], b->gains[1], b->gains[2],
+    printf(" PRESET %d GAIN %d %d %d BIAS %d %d %d\n", p->w.inputs.preset, b->gains[0], b->gains[1], b->gains[2],
            b->biases[0], b->biases[1], b->biases[2]);
-    if (p->line.busy == 1)
-        printf(" BUSY %d", p->line.count);
-    printf("\n");
 }
 
 static void put_k(const struct box_k_record *k)
@@ -187,21 +184,6 @@ static bool udp(char **words, size_t n)
     return true;
 }
 
-/* There is no area, so there is no reply. */
-static bool notice(const char *word, struct box_outcome (*tell)(struct display_box *, size_t))
-{
-    uint32_t link;
-    if (!number(word, UINT32_MAX, &link))
-        return false;
-    struct box_outcome o = tell(the_box, link);
-    put_answer(o.answer, o.place);
-    printf(o.length == 0 ? "\n" : " spoiled\n");
-    return true;
-}
-
-static bool busy(char **words, size_t n) { (void)n; return notice(words[1], box_busy); }
-static bool free_again(char **words, size_t n) { (void)n; return notice(words[1], box_free); }
-
 static bool box(char **words, size_t n)
 {
     uint8_t configuration[3 * MOST_PANELS];
@@ -296,8 +278,7 @@ static bool is_order(char *line)
         { "box", 1, MOST_WORDS, box }, { "rs232", 4, 4, rs232 },   { "kjw", 4, 4, kjw },
         { "tcp", 4, 4, tcp },          { "udp", 2, 2, udp },       { "show", 2, 2, show },
         { "advert", 2, 2, advert },    { "write", 17, 17, write_advert }, { "sum", 2, 2, sum },
-        { "piece", 4, 4, piece },      { "plain", 2, 2, plain },   { "busy", 2, 2, busy },
-        { "free", 2, 2, free_again },
+        { "piece", 4, 4, piece },      { "plain", 2, 2, plain },
     };
     char *words[MOST_WORDS];
     size_t n = words_of(line, words);

@@ -60,6 +60,7 @@ static void enter(void)
 static void measure(uint8_t paint)
 {
     static ucontext_t here, there;
+    size_t kept = 0;
     memset(stack, paint, sizeof stack);
     if (getcontext(&there) != 0)
         exit(2);
@@ -69,7 +70,6 @@ static void measure(uint8_t paint)
     makecontext(&there, enter, 0);
     if (swapcontext(&here, &there) != 0)
         exit(2);
-    size_t kept = 0;
     while (kept < sizeof stack && stack[kept] == paint)
         kept++;
     size_t depth = (size_t)(from - stack) - kept, most = called == list ? BOX_PLAIN_STACK_LENGTH : BOX_STACK_LENGTH;
@@ -94,11 +94,11 @@ static void give(const void *bytes, size_t n)
     given.length = n;
 }
 
-/* To the first panel, which is of family W, and to the second, of family K: to the wrong one too, as notices, and by numbers that are no way in. */
+/* To the first panel, which is of family W, and to the second, of family K: to the wrong one too, and by numbers that are no way in. */
 static void takes(const struct display_box *box, struct message m)
 {
     given.room = BOX_AREA_LENGTH;
-    for (given.way = 0; given.way <= BOX_WAY_FREE + 1; given.way++)
+    for (given.way = 0; given.way <= BOX_WAY_UDP + 1; given.way++)
         for (given.link = 1; given.link <= 2; given.link++) {
             given.box = *box;
             give(m.bytes, m.length);
@@ -178,23 +178,6 @@ static void every_message(const struct display_box *box)
     takes_packets(box);
     takes_frames(box);
     takes_anything(box);
-}
-
-/* Every W panel is busy, and so many sets wait at each, from this name on: their line is carried out, asked behind, or full. */
-static void every_message_while_busy(struct display_box box, size_t waiting, size_t first)
-{
-    for (size_t i = 0; i < box.count; i++) {
-        struct box_line *line = &box.panels[i].line;
-        if (box.panels[i].family != BOX_FAMILY_W)
-            continue;
-        line->busy = 1;
-        line->count = (uint8_t)waiting;
-        for (size_t place = 0; place < waiting; place++) {
-            line->names[place] = (uint8_t)((first + place) % BOX_WAITING_NAMES);
-            line->values[place] = line->names[place] == BOX_WAITING_RESET ? 0 : 1;
-        }
-    }
-    every_message(&box);
 }
 
 /* A receiver that claims so much, over the front of this stream or over any bits, and the rest of the stream as the piece. */
@@ -283,11 +266,6 @@ int main(void)
     for (size_t i = 0; i < LENGTH_OF(families); i++) {
         box = box_of(families[i]);
         every_message(&box);
-        every_message_while_busy(box, 0, 0);
-        for (size_t first = 0; first < BOX_WAITING_NAMES; first += BOX_WAITING) {
-            every_message_while_busy(box, BOX_WAITING - 1, first);
-            every_message_while_busy(box, BOX_WAITING, first);
-        }
     }
     box.panels[0].group.id = 100;
     every_message(&box);

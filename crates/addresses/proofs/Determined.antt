@@ -8,7 +8,7 @@ use Rattle.terms.specs.declared.Answer.{Answer}
 use Rattle.box_rules.specs.declared.Ids.{Ids}
 use Rattle.steps.specs.Addressing.{is_called, any_called}
 use Rattle.steps.specs.Step.{to_nobody}
-use Rattle.addresses.specs.Doors.{id_name, opened, opened_told}
+use Rattle.addresses.specs.Doors.{id_name, opened}
 use Rattle.addresses.specs.declared.Line.{Line}
 use Rattle.addresses.specs.declared.Door.{Door}
 
@@ -17,9 +17,6 @@ to_nobody_one m r r' p q = p ∙ sym q
 
 pub door_of_one : (line : Line) (ids : List Ids) (l : ℕ) (m : List ℕ) (room : ℕ) (r r' : Door) → (r ≡ opened line (map id_name ids) l m room) × (length ids ≡ 8) → (r' ≡ opened line (map id_name ids) l m room) × (length ids ≡ 8) → r ≡ r'
 door_of_one line ids l m room r r' p q = p.0 ∙ sym q.0
-
-pub notice_door_one : (ids : List Ids) (l : ℕ) (r r' : Door) → (r ≡ opened_told (map id_name ids) l) × (length ids ≡ 8) → (r' ≡ opened_told (map id_name ids) l) × (length ids ≡ 8) → r ≡ r'
-notice_door_one ids l r r' p q = p.0 ∙ sym q.0
 
 pub is_called_one : (m : List ℕ) (i : Ids) (r r' : Bool) → r ≡ is_called m (id_name i) → r' ≡ is_called m (id_name i) → r ≡ r'
 is_called_one m i r r' p q = p ∙ sym q

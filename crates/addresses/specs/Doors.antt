@@ -1,7 +1,7 @@
 -- For the contracts of the code alone: the door of the box as it is read off what the panels are called by. That it is the step's door
 -- is proved in ways_in.
 use Rattle.std.specs.Prelude.{ℕ, ◌-◌, Bool, cond, List, eqb, leb, ltb, get_or}
-use Rattle.terms.specs.declared.Answer.TheVariants.{AreaTooSmall, NoSuchPanel, NoWPanel}
+use Rattle.terms.specs.declared.Answer.TheVariants.{AreaTooSmall, NoSuchPanel}
 use Rattle.panels.specs.Records.{family_w, family_k}
 use Rattle.box_rules.specs.Pairs.{no_ids}
 use Rattle.box_rules.specs.declared.Ids.{Ids}
@@ -46,7 +46,3 @@ opened line ns l m room =
     cond (ltb room 512) (Shut AreaTooSmall)
     (cond (is_of line (on_link ns l)) (comes_to (target_by line ns l m) m)
     (Shut NoSuchPanel))
-
--- document 02, §9: "17 a busy notice for a link that is no W panel"
-unfoldable pub opened_told : List Name → ℕ → Door
-opened_told ns l = cond (is_w (on_link ns l)) (At (l - 1)) (Shut NoWPanel)

@@ -3,7 +3,7 @@
 ghost use Rattle.std.specs.Prelude.{◌≡◌, ◌&&◌, map, eqb, length};
 ghost use Rattle.steps.specs.Addressing.{has_ids, is_id, is_pair, pair_number, by_tcp, is_called, any_called};
 ghost use Rattle.steps.specs.Step.{to_nobody};
-ghost use Rattle.addresses.specs.Doors.{id_name, family_on, family_by, target_by, opened, opened_told};
+ghost use Rattle.addresses.specs.Doors.{id_name, family_on, family_by, target_by, opened};
 
 use box_rules::Ids;
 use octets::byte_at;
@@ -175,17 +175,6 @@ pub fn door_of(line: Line, ids: [Ids; 8], link: usize, m: &[u8], room: usize) ->
         return Door::Shut(to_nobody(m));
     }
     Door::At(number - 1)
-}
-
-// A notice: open to the W panel on the link, and else 17.
-pub fn notice_door(ids: [Ids; 8], link: usize) -> Door
-    ensures { (result ≡ opened_told (map id_name ids) link) × (length ids ≡ 8) }
-{
-    if family_on(ids, link) != FAMILY_W {
-        return Door::Shut(Answer::NoWPanel);
-    }
-    let i = link - 1;
-    Door::At(i)
 }
 
 // "1..99/FFh is every W panel of that group; FFh/FFh every W panel."

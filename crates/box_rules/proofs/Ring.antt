@@ -14,7 +14,6 @@ use Rattle.laws.proofs.Conditions.{and_first, and_second, and_both, false_true}
 use Rattle.laws.proofs.Lists.{every_at}
 use Rattle.laws.proofs.Table.{below}
 use Rattle.panels.specs.Records.{family_w, family_k}
-use Rattle.panels.proofs.Rules.{ruled}
 use Rattle.panels.specs.Valid.{ok_w, ok_k, ok_ids, zero_ids, ok_family, ok_panel, share, apart, distinct}
 use Rattle.box_rules.specs.Pairs.{ids_of, no_ids, bare}
 use Rattle.box_rules.specs.Ring.{pair_at, Rings, apart_by, all_apart}
@@ -162,11 +161,11 @@ same_shared a b i j m n l k = go (eqb a.family family_w) refl (eqb b.family fami
 
 -- what good panels are called by, and places without a panel
 pub named : (l : List Panel) (n k : ℕ) → every ok_panel l ≡ true → Named (get_or (map ids_of l ++ replicate n no_ids) k no_ids)
-unfolding ok_family ok_ids
+unfolding ok_panel ok_family ok_ids
 named [] zero k e f = absurd (omega arith)
 named [] (suc n) zero e f = absurd (omega arith)
 named [] (suc n) (suc k) e f = named [] n k e f
-named (p ∷ l) n zero e f = ids p.group.0 p.unit.0 (and_first (ok_ids p.group p.unit) (ok_w p.w) (subst (λ (b : Bool). cond b (ok_ids p.group p.unit && ok_w p.w) (eqb p.family family_k && zero_ids p.group p.unit && ok_k p.k) ≡ true) (eq-eqb p.family family_w f) (ruled p (and_first (ok_panel p) (every ok_panel l) e)).family_ok))
+named (p ∷ l) n zero e f = ids p.group.0 p.unit.0 (and_first (ok_ids p.group p.unit) (ok_w p.w) (subst (λ (b : Bool). cond b (ok_ids p.group p.unit && ok_w p.w) (eqb p.family family_k && zero_ids p.group p.unit && ok_k p.k) ≡ true) (eq-eqb p.family family_w f) (and_first (ok_panel p) (every ok_panel l) e)))
   where
     ids : (g u : ℕ) → (leb 1 g && leb g 99 && leb 1 u && leb u 99) ≡ true → (1 ≤ g) × ((g ≤ 99) × (u ≤ 99))
     ids g u e =

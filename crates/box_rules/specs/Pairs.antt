@@ -23,7 +23,6 @@ bare i = record {
   spare = 0;
   w = past_end.w;
   k = past_end.k;
-  line = past_end.line;
 }
 
 -- those of the first n panels, and no panel behind them

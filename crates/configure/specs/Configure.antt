@@ -2,7 +2,6 @@
 use Rattle.std.specs.Prelude.{ℕ, ◌+◌, ◌*◌, ◌/◌, ◌%◌, cond, ◌&&◌, List, eqb, ltb, length, get_or}
 use Rattle.laws.specs.Lists.{places}
 use Rattle.terms.specs.declared.Answer.TheVariants.{Done, BadConfiguration}
-use Rattle.panels.specs.Waits.{free_line}
 use Rattle.panels.specs.Records.{start_w, start_k, zero_panel, no_box}
 use Rattle.panels.specs.Valid.{valid}
 use Rattle.panels.specs.declared.Panel.{Panel}
@@ -18,7 +17,6 @@ fresh_panel family group unit = record {
   spare = 0;
   w = start_w;
   k = start_k;
-  line = free_line;
 }
 
 -- what is asked for at place i: the panel of its three bytes, or no panel behind the last

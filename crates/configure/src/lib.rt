@@ -4,7 +4,7 @@ ghost use Rattle.panels.specs.Records.{start_w, start_k};
 ghost use Rattle.configure.specs.Configure.{asked, fresh_panel, refusal, configured};
 
 use box_rules::is_valid;
-use panels::{Balance, DisplayBox, Inputs, KRecord, Panel, WRecord, free_line, zero_panel};
+use panels::{Balance, DisplayBox, Inputs, KRecord, Panel, WRecord, zero_panel};
 use settings::start_values;
 use terms::{Answer, GroupId, UnitId};
 
@@ -59,7 +59,6 @@ fn fresh_panel(family: u8, group: u8, unit: u8) -> Panel
         spare: 0,
         w: start_w(),
         k: start_k(),
-        line: free_line(),
     }
 }
 

@@ -16,10 +16,10 @@ use Rattle.turns.specs.Turns.{Turn, turn_with}
 use Rattle.turns.proofs.Turns.{roomy}
 use Rattle.panels.specs.declared.Panel.{Panel}
 use Rattle.panels.specs.declared.DisplayBox.{DisplayBox}
-use Rattle.sdcp.specs.Busy.{turn_at}
+use Rattle.sdcp.specs.Replies.{turn_of}
 use Rattle.steps.specs.Messages.{tcp, Name, names}
 use Rattle.steps.specs.Addressing.{by_tcp, target, addressed}
-use Rattle.steps.specs.Step.{standing_of, with_standing, with_panels, door, turn, Outcome, panel_at, own_turn, passed, refused, step}
+use Rattle.steps.specs.Step.{with_w, with_panels, door, turn, Outcome, panel_at, own_turn, passed, refused, step}
 use Rattle.cuts.specs.Exchanges.{exchanged}
 
 -- what the box becomes, says and sends back
@@ -38,7 +38,7 @@ module _ (l : ℕ) (m a a' : List ℕ) (h : 512 ≤ length a) (h' : 512 ≤ leng
 
   turn_same : (p : Panel) → turn (tcp l m a) p ≡ turn (tcp l m a') p
   unfolding turn
-  turn_same p = ap (turn_with (with_standing p)) (roomy (length a) (turn_at m) (standing_of p) h ∙ sym (roomy (length a') (turn_at m) (standing_of p) h'))
+  turn_same p = ap (turn_with (with_w p)) (roomy (length a) (turn_of m) p.w h ∙ sym (roomy (length a') (turn_of m) p.w h'))
 
   own_same : (ns : List Name) (b : DisplayBox) → own_turn ns b (tcp l m a) ≡ own_turn ns b (tcp l m a')
   unfolding target

@@ -1,6 +1,5 @@
 pub mod Areas
 pub mod Cutting
 pub mod Lives
-pub mod Happens
 pub mod Overlong
 pub mod Examples

@@ -4,7 +4,7 @@
 use Prim.Native.Nat.{ℕ, ◌-◌, ◌<◌, ◌≤◌}
 use native.Mathlib.Omega.{arith}
 use mathlib.Core.Path.{◌≡◌, refl, ap, ◌∙◌}
-use mathlib.Core.Bool.{Bool, true, false, not, cond}
+use mathlib.Core.Bool.{Bool, true, false, cond}
 use mathlib.Core.List.{List, []}
 use lib.Dec.{eqb}
 use lib.ListN.{length, get_or}
@@ -17,20 +17,15 @@ use Rattle.terms.specs.declared.Envelope.{Envelope}
 use Rattle.terms.specs.declared.Envelope.TheVariants.{Wrong}
 use Rattle.terms.specs.declared.Answer.TheVariants.{Done, NotForUs, PartWrong}
 use Rattle.terms.proofs.Answers.{told-tells}
-use Rattle.turns.specs.Turns.{Turn}
 use Rattle.turns.proofs.Turns.{roomy}
 use Rattle.panels.specs.declared.DisplayBox.{DisplayBox}
-use Rattle.vmc_asks.specs.declared.Order.{Order}
-use Rattle.settling.specs.Settling.{dropped}
-use Rattle.settling.specs.declared.Standing.{Standing}
-use Rattle.sdcp.specs.Busy.{turn_at}
+use Rattle.sdcp.specs.Replies.{turned, turn_of}
 use Rattle.sdcp_asks.specs.Asks.{is_ours, item_of, data_length_of, request_wrong, item_wrong, envelope_of, heard_of}
 use Rattle.sdcp_asks.specs.declared.Heard.TheVariants.{Broken}
 use Rattle.sdcp_asks.proofs.Envelopes.{FirstWrong, wrong_heard}
 use Rattle.steps.specs.Messages.{Message, tcp, names, on_link, is_w}
 use Rattle.steps.specs.Addressing.{by_tcp, target}
-use Rattle.steps.specs.Step.{standing_of, to_nobody, door, turn, cast_answer, through, panel_at, step}
-use Rattle.steps.proofs.Judged.{at_answer}
+use Rattle.steps.specs.Step.{to_nobody, door, turn, through, panel_at, step}
 use Rattle.steps.proofs.Refusals.{long_to_nobody}
 use Rattle.steps.proofs.Only.{only_3, only_part}
 use Rattle.steps.proofs.Placed.{places_in, placed}
@@ -57,14 +52,12 @@ heard_broken m h o n = wrong_heard m h o (overlong_part m) (overlong_wrong m n)
 -- such a message by TCP, once checks 1 and 2 are passed
 answered : (m : List ℕ) (b : DisplayBox) (l : ℕ) (area : List ℕ) → 13 ≤ length m → is_ours m ≡ true → 499 < data_length_of m → 512 ≤ length area → is_w (on_link (names b) l) ≡ true
     → (step b (tcp l m area)).answer ≡ cond (eqb (by_tcp (names b) l m) 0) NotForUs (PartWrong (overlong_part m))
-unfolding step door target turn
+unfolding step door target turn turned
 answered m b l area h o n room w = rw (le-ltb (length area) 512 room, w) (go (eqb (by_tcp (names b) l m) 0))
   where
     go : (t : Bool) → (through (names b) b (tcp l m area) (cond t (to_nobody m) Done)).answer ≡ cond t NotForUs (PartWrong (overlong_part m))
     go true = rw (long_to_nobody m h)
-    go false =
-        let s = standing_of (panel_at (by_tcp (names b) l m - 1) b) in
-        ap (λ (t : Turn Standing). t.answer) (roomy (length area) (turn_at m) s room) ∙ at_answer m (heard_of m) s ∙ ap (cast_answer (λ (x : Order). not (dropped x s.line))) (heard_broken m h o n)
+    go false = rw (roomy (length area) (turn_of m) (panel_at (by_tcp (names b) l m - 1) b).w room, heard_broken m h o n)
 
 -- a receiver hands out such a header as 13 bytes, whatever it held and whatever the piece, and the box answers it
 pub overlong_answer : (r : Receiver) (p : List ℕ) (b : DisplayBox) (l : ℕ) (area : List ℕ) → 499 < data_length_of (given r p).packet → 512 ≤ length area → is_w (on_link (names b) l) ≡ true

@@ -1,5 +1,3 @@
-pub mod Account
 pub mod Determined
-pub mod Examples
 pub mod Host
 pub mod Life

@@ -1,10 +1,8 @@
 -- A host's calls are a run of the step: each call is one message, or none; so what is proved of every run holds of its box and of what its calls got.
 use mathlib.Core.Path.{◌≡◌, refl, sym, ap, ◌∙◌}
-use mathlib.Core.Bool.{Bool, true, false, cond, ◌&&◌}
-use lib.Dec.{leb}
+use mathlib.Core.Bool.{Bool, true, false, cond}
 use mathlib.Core.List.{List, [], ◌∷◌}
-use Prim.Native.Nat.{ℕ, suc, ◌-◌, ◌<◌}
-use native.Mathlib.Omega.{arith}
+use Prim.Native.Nat.{ℕ, ◌<◌}
 use lib.ListN.{length}
 use Rattle.laws.proofs.Lists.{same_self}
 use Rattle.terms.specs.Answers.{number_of, answerPlace}
@@ -12,31 +10,16 @@ use Rattle.panels.specs.declared.DisplayBox.{DisplayBox}
 use Rattle.configure.specs.Configure.{configured}
 use Rattle.steps.specs.Messages.{Message, rs232c, kjw, tcp, udp, names}
 use Rattle.steps.specs.Addressing.{addressed}
-use Rattle.steps.specs.Step.{Outcome, panel_at, step}
+use Rattle.steps.specs.Step.{panel_at, step}
 use Rattle.steps.specs.Run.{Got, got_by, run, kept, replies}
 use Rattle.steps.proofs.Alone.{eight_places, demand_3}
-use Rattle.steps.proofs.Validity.{names_kept, valid_kept, bad_kept}
-use Rattle.steps.proofs.Door.{by_door}
-use Rattle.panels.specs.Records.{zero_panel}
-use Rattle.panels.specs.Valid.{valid}
-use Rattle.panels.specs.declared.Panel.{Panel}
-use Rattle.host_box.specs.Called.{way_of, called_by, called, panel_behind}
+use Rattle.steps.proofs.Validity.{names_kept}
+use Rattle.host_box.specs.Called.{way_of, called_by, called}
 use Rattle.host_box.specs.Life.{Call, after_call, life, and_by, and_that, messages_of, is_for_by, CallGot, with_area_lem, without_area, got_through, gots}
 use Rattle.addresses.specs.declared.Line.TheVariants.{Rs232c, Kjw, Tcp}
 use Rattle.ways_in.specs.declared.Way.TheVariants.{By, Udp}
 use Rattle.host_box.specs.declared.Entry.{Entry}
 use Rattle.host_box.specs.declared.Entry.TheVariants.{Through, Nowhere}
-use mathlib.Core.Bool.{not, ◌||◌}
-use borrow.Author.Tests.{eqb-true, ne_eqb}
-use lib.Dec.{eqb}
-use Rattle.terms.specs.declared.Answer.{Answer}
-use Rattle.terms.specs.declared.Answer.TheVariants.{Done}
-use Rattle.terms.proofs.Answers.{every-answer}
-use Rattle.steps.specs.Messages.{notice}
-use Rattle.steps.specs.Run.{unfull}
-use Rattle.steps.proofs.WhileBusy.{udp_number}
-use Rattle.ways_in.specs.declared.Way.TheVariants.{Notice}
-use Rattle.host_box.specs.Life.{unfulled}
 
 -- ---- the box
 
@@ -44,7 +27,6 @@ use Rattle.host_box.specs.Life.{unfulled}
 by_entry : (b : DisplayBox) (rest : List Message) (k : Call) (e : Entry) → run (called_by e b k.link k.message k.area).box rest ≡ run b (and_by e k rest)
 by_entry b rest k (Through (By line)) = refl
 by_entry b rest k (Through Udp) = refl
-by_entry b rest k (Through (Notice t)) = refl
 by_entry b rest k Nowhere = refl
 
 one_call : (b : DisplayBox) (rest : List Message) (k : Call) → run (after_call b k) rest ≡ run b (and_that k rest)
@@ -58,66 +40,43 @@ life_is_run b (k ∷ ks) = life_is_run (after_call b k) ks ∙ one_call b (messa
 -- ---- what the calls got
 
 -- what a host is told of what a message got
-abbrev pub told : Message → Got → CallGot
+abbrev told : Message → Got → CallGot
 told (rs232c l m area) g = with_area_lem (number_of g.answer) (answerPlace g.answer) g.back.len g.back.area
 told (kjw l m area) g = with_area_lem (number_of g.answer) (answerPlace g.answer) g.back.len g.back.area
 told (tcp l m area) g = with_area_lem (number_of g.answer) (answerPlace g.answer) g.back.len g.back.area
-told (udp m) g = without_area (number_of (unfull g.answer)) (answerPlace (unfull g.answer)) g.back.len true
-told (notice t l) g = without_area (number_of g.answer) (answerPlace g.answer) g.back.len true
+told (udp m) g = without_area (number_of g.answer) (answerPlace g.answer) g.back.len true
 
-abbrev pub told_all : List Message → List Got → List CallGot
+abbrev told_all : List Message → List Got → List CallGot
 told_all [] gs = []
 told_all (m ∷ ms) [] = []
 told_all (m ∷ ms) (g ∷ gs) = told m g ∷ told_all ms gs
 
--- 15 has place 0, so its place is that of 0
-unfull_number : (a : Answer) → unfulled (number_of a) ≡ number_of (unfull a)
-unfull_number a = go (eqb (number_of a) 15)
-  where
-    go : (t : Bool) → cond t 0 (number_of a) ≡ number_of (cond t Done a)
-    go true = refl
-    go false = refl
-
-unfull_place : (a : Answer) → answerPlace a ≡ answerPlace (unfull a)
-unfull_place a = go (eqb (number_of a) 15) refl
-  where
-    go : (t : Bool) → eqb (number_of a) 15 ≡ t → answerPlace a ≡ answerPlace (cond t Done a)
-    go true e = eqb-true (answerPlace a) 0 (ap (λ (t : Bool). not t || eqb (answerPlace a) 0) (sym e) ∙ every-answer (λ (x : Answer). not (eqb (number_of x) 15) || eqb (answerPlace x) 0) (λ place. refl) a)
-    go false e = refl
-
 module _ (i : ℕ) where
-  abbrev pub ToldIn : DisplayBox → List Message → List CallGot → Type 0
+  abbrev ToldIn : DisplayBox → List Message → List CallGot → Type 0
   ToldIn b ms gs = gs ≡ told_all (kept i (names b) ms) (replies i b ms)
 
   -- a message that got this stands in front
-  in_front_holds : (b : DisplayBox) (m : Message) (ms : List Message) (g : CallGot) (gs : List CallGot) → (addressed (names b) m i ≡ true → g ≡ told m (got_by i b m)) → ToldIn (step b m).box ms gs → ToldIn b (m ∷ ms) (cond (addressed (names b) m i) (g ∷ gs) gs)
-  in_front_holds b m ms g gs e r = go (addressed (names b) m i) refl (rw (names_kept b m) at r)
+  in_front_holds : (b : DisplayBox) (m : Message) (ms : List Message) (g : CallGot) (gs : List CallGot) → g ≡ told m (got_by b m) → ToldIn (step b m).box ms gs → ToldIn b (m ∷ ms) (cond (addressed (names b) m i) (g ∷ gs) gs)
+  in_front_holds b m ms g gs e r = go (addressed (names b) m i) (rw (names_kept b m) at r)
     where
       b' : DisplayBox
       b' = (step b m).box
 
-      go : (x : Bool) → addressed (names b) m i ≡ x → gs ≡ told_all (kept i (names b) ms) (replies i b' ms) → cond x (g ∷ gs) gs ≡ told_all (cond x (m ∷ kept i (names b) ms) (kept i (names b) ms)) (cond x (got_by i b m ∷ replies i b' ms) (replies i b' ms))
-      go true a q = ap (λ (y : CallGot). y ∷ gs) (e a) ∙ ap (λ (ys : List CallGot). told m (got_by i b m) ∷ ys) q
-      go false a q = q
+      go : (x : Bool) → gs ≡ told_all (kept i (names b) ms) (replies i b' ms) → cond x (g ∷ gs) gs ≡ told_all (cond x (m ∷ kept i (names b) ms) (kept i (names b) ms)) (cond x (got_by b m ∷ replies i b' ms) (replies i b' ms))
+      go true q = ap (λ (y : CallGot). y ∷ gs) e ∙ ap (λ (ys : List CallGot). told m (got_by b m) ∷ ys) q
+      go false q = q
 
   got_by_entry : (b : DisplayBox) (k : Call) (ms : List Message) (ks : List Call) (e : Entry) → ((c : DisplayBox) → ToldIn c ms (gots i c ks)) → ToldIn b (and_by e k ms) (cond (is_for_by e i (names b) k) (got_through e k.area (called_by e b k.link k.message k.area) ∷ gots i (called_by e b k.link k.message k.area).box ks) (gots i (called_by e b k.link k.message k.area).box ks))
-  got_by_entry b k ms ks (Through (By Rs232c)) r = in_front_holds b (rs232c k.link k.message k.area) ms _ _ (λ a. refl) (r (step b (rs232c k.link k.message k.area)).box)
-  got_by_entry b k ms ks (Through (By Kjw)) r = in_front_holds b (kjw k.link k.message k.area) ms _ _ (λ a. refl) (r (step b (kjw k.link k.message k.area)).box)
-  got_by_entry b k ms ks (Through (By Tcp)) r = in_front_holds b (tcp k.link k.message k.area) ms _ _ (λ a. refl) (r (step b (tcp k.link k.message k.area)).box)
+  got_by_entry b k ms ks (Through (By Rs232c)) r = in_front_holds b (rs232c k.link k.message k.area) ms _ _ refl (r (step b (rs232c k.link k.message k.area)).box)
+  got_by_entry b k ms ks (Through (By Kjw)) r = in_front_holds b (kjw k.link k.message k.area) ms _ _ refl (r (step b (kjw k.link k.message k.area)).box)
+  got_by_entry b k ms ks (Through (By Tcp)) r = in_front_holds b (tcp k.link k.message k.area) ms _ _ refl (r (step b (tcp k.link k.message k.area)).box)
   got_by_entry b k ms ks (Through Udp) r =
       let o = step b (udp k.message) in
-      in_front_holds b (udp k.message) ms _ _
-      (λ a. ap (without_area (unfulled (number_of o.answer)) (answerPlace o.answer) o.back.len) (same_self k.area)
-      ∙ ap (λ (n : ℕ). without_area n (answerPlace o.answer) o.back.len true) (unfull_number o.answer)
-      ∙ ap (λ (n : ℕ). without_area (number_of (unfull o.answer)) n o.back.len true) (unfull_place o.answer)
-      ∙ ap (λ (x : Answer). without_area (number_of x) (answerPlace x) o.back.len true) (udp_number b i k.message a)) (r o.box)
-  got_by_entry b k ms ks (Through (Notice t)) r =
-      let o = step b (notice t k.link) in
-      in_front_holds b (notice t k.link) ms _ _ (λ a. ap (without_area (number_of o.answer) (answerPlace o.answer) o.back.len) (same_self k.area)) (r o.box)
+      in_front_holds b (udp k.message) ms _ _ (ap (without_area (number_of o.answer) (answerPlace o.answer) o.back.len) (same_self k.area)) (r o.box)
   got_by_entry b k ms ks Nowhere r = r b
 
   -- what a host's calls got is what the messages of the run got
-  pub gots_told : (ks : List Call) (b : DisplayBox) → ToldIn b (messages_of ks) (gots i b ks)
+  gots_told : (ks : List Call) (b : DisplayBox) → ToldIn b (messages_of ks) (gots i b ks)
   unfolding called
   gots_told [] b = refl
   gots_told (k ∷ ks) b = got_by_entry b k (messages_of ks) ks (way_of k.way) (λ c. gots_told ks c)
@@ -143,59 +102,3 @@ pub lives_alone_configured : (c : List ℕ) (i : ℕ) (ks ls : List Call) → i 
     → kept i (names (configured c).made) (messages_of ks) ≡ kept i (names (configured c).made) (messages_of ls)
     → (panel_at i (life (configured c).made ks) ≡ panel_at i (life (configured c).made ls)) × (gots i (configured c).made ks ≡ gots i (configured c).made ls)
 lives_alone_configured c i ks ls h e = lives_alone (configured c).made i ks ls (rw (eight_places c) h) e
-
--- ---- what the host is shown
-
-run_valid : (ms : List Message) (b : DisplayBox) → valid b ≡ true → valid (run b ms) ≡ true
-run_valid [] b v = v
-run_valid (m ∷ ms) b v = run_valid ms (step b m).box (valid_kept b m v)
-
-bad_run : (ms : List Message) (b : DisplayBox) → valid b ≡ false → run b ms ≡ b
-bad_run [] b v = refl
-bad_run (m ∷ ms) b v = ap (λ (c : DisplayBox). run c ms) (bad_kept b m v) ∙ bad_run ms b v
-
-valid_run : (ms : List Message) (b : DisplayBox) → valid (run b ms) ≡ valid b
-valid_run ms b = go (valid b) refl
-  where
-    go : (v : Bool) → valid b ≡ v → valid (run b ms) ≡ valid b
-    go true e = run_valid ms b e ∙ sym e
-    go false e = ap valid (bad_run ms b e)
-
-count_run : (ms : List Message) (b : DisplayBox) → (run b ms).count ≡ b.count
-count_run [] b = refl
-count_run (m ∷ ms) b = count_run ms (step b m).box ∙ by_door (λ (o : Outcome). o.box.count ≡ b.count) b m (λ e. refl) (λ e. refl)
-
-shows : (b c : DisplayBox) (i : ℕ) → valid b ≡ valid c → b.count ≡ c.count → panel_at i b ≡ panel_at i c → panel_behind b (suc i) ≡ panel_behind c (suc i)
-unfolding panel_behind
-shows b c i v n p =
-    let k : suc i - 1 ≡ i = omega arith in
-    ap (λ (j : ℕ). cond (valid b && leb 1 (suc i) && leb (suc i) b.count) (panel_at j b) zero_panel) k
-    ∙ ap (λ (x : Panel). cond (valid b && leb 1 (suc i) && leb (suc i) b.count) x zero_panel) p
-    ∙ ap (λ (t : Bool). cond (t && leb 1 (suc i) && leb (suc i) b.count) (panel_at i c) zero_panel) v
-    ∙ ap (λ (x : ℕ). cond (valid c && leb 1 (suc i) && leb (suc i) x) (panel_at i c) zero_panel) n
-    ∙ ap (λ (j : ℕ). cond (valid c && leb 1 (suc i) && leb (suc i) c.count) (panel_at j c) zero_panel) (sym k)
-
--- and `box_panel_at` shows the same panel after both lives
-pub lives_shown : (b : DisplayBox) (i : ℕ) (ks ls : List Call) → i < length b.panels
-    → kept i (names b) (messages_of ks) ≡ kept i (names b) (messages_of ls)
-    → panel_behind (life b ks) (suc i) ≡ panel_behind (life b ls) (suc i)
-lives_shown b i ks ls h e =
-    let x = life_is_run b ks in
-    let y = life_is_run b ls in
-    shows (life b ks) (life b ls) i
-    (ap valid x ∙ valid_run (messages_of ks) b ∙ sym (ap valid y ∙ valid_run (messages_of ls) b))
-    (ap (λ (c : DisplayBox). c.count) x ∙ count_run (messages_of ks) b ∙ sym (ap (λ (c : DisplayBox). c.count) y ∙ count_run (messages_of ls) b))
-    (lives_alone b i ks ls h e).0
-
--- the panel that is shown behind a link in use of a box that keeps the rules is the record at its place
-pub shown : (b : DisplayBox) (i : ℕ) → (valid b && leb 1 (suc i) && leb (suc i) b.count) ≡ true → panel_behind b (suc i) ≡ panel_at i b
-unfolding panel_behind
-shown b i v = let k : suc i - 1 ≡ i = omega arith in ap (λ (t : Bool). cond t (panel_at (suc i - 1) b) zero_panel) v ∙ ap (λ (j : ℕ). panel_at j b) k
-
--- ---- what demand 3 leaves out by UDP is the one number alone: every other is told as it is, in the step's answer and to C
-
-pub unfull_is : (a : Answer) → (number_of a ≡ 15 → ⊥) → unfull a ≡ a
-unfull_is a n = rw (ne_eqb (number_of a) 15 n)
-
-pub unfulled_is : (n : ℕ) → (n ≡ 15 → ⊥) → unfulled n ≡ n
-unfulled_is n d = rw (ne_eqb n 15 d)

@@ -1,5 +1,5 @@
 -- The box as a C host calls it: the one step, its ways in told apart by a number, its answers as numbers.
-use Rattle.std.specs.Prelude.{ℕ, ◌-◌, true, false, cond, ◌&&◌, List, eqb, leb}
+use Rattle.std.specs.Prelude.{ℕ, ◌-◌, cond, ◌&&◌, List, eqb, leb}
 use Rattle.terms.specs.Answers.{number_of, answerPlace}
 use Rattle.terms.specs.declared.Answer.TheVariants.{NoSuchPanel}
 use Rattle.panels.specs.Records.{zero_panel}
@@ -9,7 +9,7 @@ use Rattle.panels.specs.declared.DisplayBox.{DisplayBox}
 use Rattle.steps.specs.Step.{panel_at}
 use Rattle.addresses.specs.declared.Line.TheVariants.{Rs232c, Kjw, Tcp}
 use Rattle.ways_in.specs.Promise.{Came, came_by}
-use Rattle.ways_in.specs.declared.Way.TheVariants.{By, Udp, Notice}
+use Rattle.ways_in.specs.declared.Way.TheVariants.{By, Udp}
 use Rattle.configure.specs.declared.Configured.{Configured}
 use Rattle.host_box.specs.declared.Made.{Made}
 use Rattle.host_box.specs.declared.Outcome.{Outcome}
@@ -35,16 +35,14 @@ in_numbers c = record { box = c.box; answer = number_of c.answer; place = answer
 abbrev pub no_way : DisplayBox → List ℕ → Called
 no_way b area = record { box = b; answer = number_of NoSuchPanel; place = answerPlace NoSuchPanel; len = 0; area = area }
 
--- "RS-232C port of panel p, KJW link of panel p, SDCP by TCP on the link of panel p, or SDCP by UDP": 1, 2, 3, 4; document 02, §9: busy and free are 5 and 6
+-- "RS-232C port of panel p, KJW link of panel p, SDCP by TCP on the link of panel p, or SDCP by UDP": 1, 2, 3, 4
 unfoldable pub way_of : ℕ → Entry
 way_of n =
     cond (eqb n 1) (Through (By Rs232c))
     (cond (eqb n 2) (Through (By Kjw))
     (cond (eqb n 3) (Through (By Tcp))
     (cond (eqb n 4) (Through Udp)
-    (cond (eqb n 5) (Through (Notice true))
-    (cond (eqb n 6) (Through (Notice false))
-    Nowhere)))))
+    Nowhere)))
 
 abbrev pub called_by : Entry → DisplayBox → ℕ → List ℕ → List ℕ → Called
 called_by (Through way) b link m area = in_numbers (came_by way b link m area)

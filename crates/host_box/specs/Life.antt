@@ -1,12 +1,12 @@
 -- A host's calls one after the other: the messages that they hand in, and what each of them got.
-use Rattle.std.specs.Prelude.{ℕ, Bool, false, cond, List, [], ◌∷◌, eqb}
+use Rattle.std.specs.Prelude.{ℕ, Bool, false, List, [], ◌∷◌}
 use Rattle.laws.specs.Bytes.{same}
 use Rattle.laws.specs.Runs.{run_by, heard_by}
 use Rattle.panels.specs.declared.DisplayBox.{DisplayBox}
-use Rattle.steps.specs.Messages.{Message, udp, notice, Name, names}
+use Rattle.steps.specs.Messages.{Message, udp, Name, names}
 use Rattle.steps.specs.Addressing.{addressed}
 use Rattle.ways_in.specs.Promise.{message_of}
-use Rattle.ways_in.specs.declared.Way.TheVariants.{By, Udp, Notice}
+use Rattle.ways_in.specs.declared.Way.TheVariants.{By, Udp}
 use Rattle.host_box.specs.declared.Entry.{Entry}
 use Rattle.host_box.specs.declared.Entry.TheVariants.{Through, Nowhere}
 use Rattle.host_box.specs.Called.{Called, way_of, called}
@@ -29,7 +29,6 @@ life b ks = run_by after_call b ks
 abbrev pub and_by : Entry → Call → List Message → List Message
 and_by (Through (By line)) k ms = message_of line k.link k.message k.area ∷ ms
 and_by (Through Udp) k ms = udp k.message ∷ ms
-and_by (Through (Notice t)) k ms = notice t k.link ∷ ms
 and_by Nowhere k ms = ms
 
 abbrev pub and_that : Call → List Message → List Message
@@ -43,7 +42,6 @@ messages_of (k ∷ ks) = and_that k (messages_of ks)
 abbrev pub is_for_by : Entry → ℕ → List Name → Call → Bool
 is_for_by (Through (By line)) i ns k = addressed ns (message_of line k.link k.message k.area) i
 is_for_by (Through Udp) i ns k = addressed ns (udp k.message) i
-is_for_by (Through (Notice t)) i ns k = addressed ns (notice t k.link) i
 is_for_by Nowhere i ns k = false
 
 abbrev pub is_for : ℕ → List Name → Call → Bool
@@ -56,15 +54,9 @@ pub data CallGot : Type 0 where
   with_area_holds : (answer place len : ℕ) → List ℕ → CallGot
   without_area : (answer place len : ℕ) → Bool → CallGot
 
--- document 02, §9, "By UDP each addressed panel decides for itself, and the answer is 0 if any took it; demand 3 is over records and replies, not this number": 15
--- counts as 0 there
-abbrev pub unfulled : ℕ → ℕ
-unfulled n = cond (eqb n 15) 0 n
-
 abbrev pub got_through : Entry → List ℕ → Called → CallGot
 got_through (Through (By line)) area c = with_area_holds c.answer c.place c.len c.area
-got_through (Through Udp) area c = without_area (unfulled c.answer) c.place c.len (same c.area area)
-got_through (Through (Notice t)) area c = without_area c.answer c.place c.len (same c.area area)
+got_through (Through Udp) area c = without_area c.answer c.place c.len (same c.area area)
 got_through Nowhere area c = without_area c.answer c.place c.len (same c.area area)
 
 abbrev pub got_call : DisplayBox → Call → CallGot

@@ -72,8 +72,7 @@ pub fn make_box(configuration: &[u8]) -> Made
     }
 }
 
-// 1 is the RS-232C port of the link's panel, 2 its KJW link, 3 TCP on its link, 4 UDP; 5 tells that the link's panel becomes busy, 6 that it becomes free. There
-// is no other way in.
+// 1 is the RS-232C port of the link's panel, 2 its KJW link, 3 TCP on its link, 4 UDP. There is no other way in.
 fn way_of(number: u8) -> Entry
     ensures { result ≡ way_of number }
 {
@@ -88,12 +87,6 @@ fn way_of(number: u8) -> Entry
     }
     if number == 4 {
         return Entry::Through(Way::Udp);
-    }
-    if number == 5 {
-        return Entry::Through(Way::Notice(true));
-    }
-    if number == 6 {
-        return Entry::Through(Way::Notice(false));
     }
     Entry::Nowhere
 }

@@ -2,12 +2,11 @@
 -- place and the replies are those of a life alone under the kept messages.
 use Prim.Native.Nat.{ℕ, zero, suc, ◌<◌}
 use mathlib.Core.Path.{◌≡◌, refl, sym, ap, ◌∙◌}
-use mathlib.Core.Bool.{Bool, true, false, cond, ◌&&◌, ◌||◌}
+use mathlib.Core.Bool.{Bool, true, false, cond}
 use mathlib.Core.List.{List, [], ◌∷◌, map}
 use native.Mathlib.Omega.{arith}
 use lib.ListN.{length, get_or, set, take}
-use Rattle.laws.specs.Runs.{run_by, kept_by, heard_by, each, first_each, some_of, first_some}
-use Rattle.laws.proofs.Conditions.{false_true}
+use Rattle.laws.specs.Runs.{run_by, kept_by, heard_by, each, first_each}
 
 -- what a step does to one place (`place`) under the addressing of the moment (`names`): it stays, or it takes its turn
 pub record Alone {B C M A R : Type 0} (sound : B → Type 0) (names : B → C) (place : B → A) (step : B → M → B) (heard : B → M → R) (next : C → M → C) (kept : C → M → Bool) (turn : C → M → A → A) (says : C → M → A → R) : Type 0 where
@@ -124,54 +123,3 @@ pub first_called : {A C : Type 0} (name : A → C) (called : C → Bool) (none :
 first_called name called none f e zero l = each_none (λ (i : ℕ). called none) f l (λ i. e)
 first_called name called none f e (suc n) [] = refl
 first_called {A} name called none f e (suc n) (x ∷ l) = ap (λ (t : List A). cond (called (name x)) (f x) x ∷ t) (first_called name called none f e n l)
-
--- ---- some place that is called passes f
-
-module _ {A : Type 0} where
-  pub some_at : (called : ℕ → Bool) (f : A → Bool) (l : List A) (i : ℕ) (d : A) → i < length l → called i ≡ true → f (get_or l i d) ≡ true → some_of called f l ≡ true
-  some_at called f [] i d h c e = absurd (omega arith)
-  some_at called f (x ∷ l) zero d h c e = rw (c, e)
-  some_at called f (x ∷ l) (suc i) d h c e = right (called 0 && f x) (some_at (λ (j : ℕ). called (suc j)) f l i d (omega arith) c e)
-    where
-      right : (t : Bool) → some_of (λ (j : ℕ). called (suc j)) f l ≡ true → (t || some_of (λ (j : ℕ). called (suc j)) f l) ≡ true
-      right true r = refl
-      right false r = r
-
-  pub none_of : (called : ℕ → Bool) (f : A → Bool) (l : List A) (d : A) → ((i : ℕ) → called i ≡ true → f (get_or l i d) ≡ false) → some_of called f l ≡ false
-  none_of called f [] d n = refl
-  none_of called f (x ∷ l) d n = go (called 0) refl (none_of (λ (i : ℕ). called (suc i)) f l d (λ i e. n (suc i) e))
-    where
-      go : (c : Bool) → called 0 ≡ c → some_of (λ (i : ℕ). called (suc i)) f l ≡ false → (c && f x || some_of (λ (i : ℕ). called (suc i)) f l) ≡ false
-      go true c r = rw (n 0 c) r
-      go false c r = r
-
-  pub some_found : (called : ℕ → Bool) (f : A → Bool) (l : List A) (d : A) → some_of called f l ≡ true → (i : ℕ) × (called i ≡ true) × (f (get_or l i d) ≡ true)
-  some_found called f [] d e = absurd (false_true e)
-  some_found called f (x ∷ l) d e = go (called 0) refl (f x) refl e (some_found (λ (i : ℕ). called (suc i)) f l d)
-    where
-      go : (c : Bool) → called 0 ≡ c → (t : Bool) → f x ≡ t → (c && t || some_of (λ (i : ℕ). called (suc i)) f l) ≡ true
-          → (some_of (λ (i : ℕ). called (suc i)) f l ≡ true → (i : ℕ) × (called (suc i) ≡ true) × (f (get_or l i d) ≡ true)) → (i : ℕ) × (called i ≡ true) × (f (get_or (x ∷ l) i d) ≡ true)
-      go true c true t e r = (0, c, t)
-      go true c false t e r = let y = r e in (suc y.0, y.1, y.2)
-      go false c b t e r = let y = r e in (suc y.0, y.1, y.2)
-
-  -- one more of the first
-  pub some_more : (f : A → Bool) (n : ℕ) (l : List A) (d : A) → n < length l → first_some f (suc n) l ≡ (first_some f n l || f (get_or l n d))
-  some_more f n [] d h = absurd (omega arith)
-  some_more f zero (x ∷ l) d h = go (f x)
-    where
-      go : (t : Bool) → (t || false) ≡ t
-      go true = refl
-      go false = refl
-  some_more f (suc n) (x ∷ l) d h = ap (λ (t : Bool). f x || t) (some_more f n l d (omega arith)) ∙ go (f x) (first_some f n l) (f (get_or l n d))
-    where
-      go : (a b c : Bool) → (a || (b || c)) ≡ ((a || b) || c)
-      go true b c = refl
-      go false b c = refl
-
--- those of the first n that are called by what they are
-pub some_called : {A C : Type 0} (name : A → C) (called : C → Bool) (none : C) (f : A → Bool) → called none ≡ false → (n : ℕ) (l : List A) → some_of (λ (i : ℕ). called (get_or (map name (take n l)) i none)) f l ≡ first_some (λ (x : A). called (name x) && f x) n l
-some_called name called none f e zero [] = refl
-some_called name called none f e zero (x ∷ l) = none_of (λ (i : ℕ). called none) f (x ∷ l) x (λ i c. absurd (false_true (sym e ∙ c)))
-some_called name called none f e (suc n) [] = refl
-some_called name called none f e (suc n) (x ∷ l) = ap (λ (t : Bool). called (name x) && f x || t) (some_called name called none f e n l)

@@ -14,6 +14,10 @@ use Rattle.laws.proofs.Lists.{from, behind}
 pub begins_from : (p s : List ℕ) (j : ℕ) → j < length p → j < length s → begins (drop j p) (drop j s) ≡ (eqb (get_or p j 0) (get_or s j 0) && begins (drop (j + 1) p) (drop (j + 1) s))
 begins_from p s j h k = rw (from p j 0 h, from s j 0 k)
 
+-- a text that has ended begins with nothing more
+pub begins_ended : (p s : List ℕ) (j : ℕ) → j < length p → length s ≤ j → begins (drop j p) (drop j s) ≡ false
+begins_ended p s j h k = rw (from p j 0 h, behind s j k)
+
 -- all of p was found
 pub begins_whole : (p s : List ℕ) (j : ℕ) → length p ≤ j → begins (drop j p) (drop j s) ≡ true
 begins_whole p s j h = rw (behind p j h)

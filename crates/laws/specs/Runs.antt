@@ -1,5 +1,5 @@
 -- Runs: a box through a list of messages, those of them that are kept for one place, and what was heard for these.
-use Rattle.std.specs.Prelude.{ℕ, zero, suc, Bool, false, cond, ◌&&◌, ◌||◌, List, [], ◌∷◌}
+use Rattle.std.specs.Prelude.{ℕ, zero, suc, Bool, cond, List, [], ◌∷◌}
 
 -- the box after the messages, one after the other
 abbrev pub run_by : {B M : Type 0} → (B → M → B) → B → List M → B
@@ -26,14 +26,3 @@ abbrev pub first_each : {A : Type 0} → (A → A) → ℕ → List A → List A
 first_each f zero l = l
 first_each f (suc n) [] = []
 first_each f (suc n) (x ∷ xs) = f x ∷ first_each f n xs
-
--- some place that is called passes f
-abbrev pub some_of : {A : Type 0} → (ℕ → Bool) → (A → Bool) → List A → Bool
-some_of called f [] = false
-some_of called f (x ∷ xs) = called 0 && f x || some_of (λ (i : ℕ). called (suc i)) f xs
-
--- some of the first n elements passes f
-abbrev pub first_some : {A : Type 0} → (A → Bool) → ℕ → List A → Bool
-first_some f zero l = false
-first_some f (suc n) [] = false
-first_some f (suc n) (x ∷ xs) = f x || first_some f n xs

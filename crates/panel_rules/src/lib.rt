@@ -1,7 +1,7 @@
 // A panel judged by the rules: its family, its IDs, and its own family's settings (document 01, "The box and its messages").
 ghost use Rattle.std.specs.Prelude.{◌≡◌};
 ghost use Rattle.laws.specs.Lists.{every};
-ghost use Rattle.panels.specs.Valid.{ok_shift, ok_bias, ok_inputs, ok_gain, ok_balance, ok_w, ok_input, ok_k, ok_ids, zero_ids, ok_family, ok_mark, ok_panel};
+ghost use Rattle.panels.specs.Valid.{ok_shift, ok_bias, ok_inputs, ok_gain, ok_balance, ok_w, ok_input, ok_k, ok_ids, zero_ids, ok_panel};
 
 use octets::{are_within, is_listed};
 use panels::{
@@ -10,7 +10,6 @@ use panels::{
 };
 use settings::most_values;
 use terms::{GroupId, UnitId};
-use waiting_rules::line_ok;
 
 // "SHIFTH or SHIFTV with -30 to +30."
 fn shift_ok(z: i8) -> bool
@@ -186,9 +185,9 @@ fn ids_zero(g: GroupId, u: UnitId) -> bool
     u.0 == 0
 }
 
-// Its family, its IDs, and its own family's settings.
-fn family_ok(p: Panel) -> bool
-    ensures { result ≡ ok_family p }
+// One panel by itself: its family, its IDs, and its own family's settings.
+pub fn panel_ok(p: Panel) -> bool
+    ensures { result ≡ ok_panel p }
 {
     let g = p.group;
     let u = p.unit;
@@ -207,29 +206,4 @@ fn family_ok(p: Panel) -> bool
     }
     let k = p.k;
     k_ok(k)
-}
-
-// A panel that is busy is of family W.
-fn mark_ok(p: Panel) -> bool
-    ensures { result ≡ ok_mark p }
-{
-    if p.family == FAMILY_W {
-        return true;
-    }
-    let l = p.line;
-    l.busy != 1
-}
-
-// One panel by itself: what its family asks, its line, and its busy mark.
-pub fn panel_ok(p: Panel) -> bool
-    ensures { result ≡ ok_panel p }
-{
-    if !family_ok(p) {
-        return false;
-    }
-    let l = p.line;
-    if !line_ok(l) {
-        return false;
-    }
-    mark_ok(p)
 }

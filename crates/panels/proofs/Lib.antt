@@ -2,4 +2,3 @@ pub mod Boxes
 pub mod Determined
 mod Examples
 pub mod Ranges
-pub mod Rules

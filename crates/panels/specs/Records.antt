@@ -1,7 +1,6 @@
 -- Document 01, "The box and its messages" and "Start values": the records, their codes and their start values.
 use Rattle.std.specs.Prelude.{ℕ, List, [], ◌∷◌, replicate, pos}
 use Rattle.settings.specs.Table.{starts}
-use Rattle.panels.specs.Waits.{free_line}
 use Rattle.panels.specs.declared.WRecord.{WRecord}
 use Rattle.panels.specs.declared.KRecord.{KRecord}
 use Rattle.panels.specs.declared.Panel.{Panel}
@@ -63,7 +62,6 @@ zero_panel = record {
     balance = record { gains = replicate 3 0; biases = replicate 3 (pos 0) };
   };
   k = record { power = 0; amut = 0; pmut = 0; volume = 0; scene = 0; kind = 0; port = 0 };
-  line = free_line;
 }
 
 -- the one box of no panels
@@ -85,5 +83,4 @@ past_end = record {
     balance = record { gains = []; biases = [] };
   };
   k = record { power = 0; amut = 0; pmut = 0; volume = 0; scene = 0; kind = 0; port = 0 };
-  line = record { busy = 0; count = 0; names = []; values = [] };
 }

@@ -1,11 +1,10 @@
 -- Document 01, "The box and its messages": the rules that a box keeps, judged of any box that can be handed in.
-use Rattle.std.specs.Prelude.{ℕ, Bool, true, not, cond, ◌&&◌, ◌||◌, List, [], ◌∷◌, eqb, leb, take, replicate, ℤ, pos, negsuc}
+use Rattle.std.specs.Prelude.{ℕ, Bool, true, not, cond, ◌&&◌, List, [], ◌∷◌, eqb, leb, take, replicate, ℤ, pos, negsuc}
 use Rattle.std.specs.Int.Signed.{le_z}
 use Rattle.laws.specs.Lists.{every, listed, within}
 use Rattle.settings.specs.Table.{least_shift, most_shift, mosts}
 use Rattle.terms.specs.declared.GroupId.{GroupId}
 use Rattle.terms.specs.declared.UnitId.{UnitId}
-use Rattle.panels.specs.Waits.{is_busy, ok_line}
 use Rattle.panels.specs.Records.{family_w, family_k, connectors, presets, kinds, most_volume, last_scene}
 use Rattle.panels.specs.declared.Inputs.{Inputs}
 use Rattle.panels.specs.declared.Balance.{Balance}
@@ -61,14 +60,9 @@ ok_family p =
     cond (eqb p.family family_w) (ok_ids p.group p.unit && ok_w p.w)
     (eqb p.family family_k && zero_ids p.group p.unit && ok_k p.k)
 
--- Document 02, §9: "A box handed in with a line or busy mark that these rules can't leave (a free panel with commands waiting, a busy K panel) breaks
--- document 01's rules too"
-unfoldable pub ok_mark : Panel → Bool
-ok_mark p = eqb p.family family_w || not (is_busy p.line)
-
 -- one panel by itself
 unfoldable pub ok_panel : Panel → Bool
-ok_panel p = ok_family p && ok_line p.line && ok_mark p
+ok_panel p = ok_family p
 
 -- two W panels that share both IDs: a group is compared with a group, a unit with a unit
 unfoldable pub share : Panel → Panel → Bool

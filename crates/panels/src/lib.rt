@@ -1,7 +1,6 @@
 // The box's records: plain numbers only, so that every bit pattern that a C host can hand in is a value, and validity judges it.
 ghost use Rattle.std.specs.Prelude.{◌≡◌};
 ghost use Rattle.panels.specs.Records.{zero_panel};
-ghost use Rattle.panels.specs.Waits.{free_line};
 
 use terms::{GroupId, UnitId};
 
@@ -62,25 +61,7 @@ pub struct KRecord {
     pub port: u16,
 }
 
-// A set that waits: its name and its value. 0 to 20 are the names of the settings, 21 and 22 SHIFTH and SHIFTV, whose value is 30 more
-// than the shift, and 23 is RESET.
-#[derive(Drop)]
-pub struct Waiting {
-    pub name: u8,
-    pub value: u8,
-}
-
-// The busy mark, how many wait, and those that wait, the oldest first; zeros behind them.
-#[repr(C)]
-#[derive(Drop)]
-pub struct WaitingLine {
-    pub busy: u8,
-    pub count: u8,
-    pub names: [u8; 8],
-    pub values: [u8; 8],
-}
-
-// A panel: its family (57h W, 4Bh K), its IDs, the settings of both families side by side, and the sets that wait while it is busy.
+// A panel: its family (57h W, 4Bh K), its IDs, and the settings of both families side by side.
 #[repr(C)]
 #[derive(Drop)]
 pub struct Panel {
@@ -90,7 +71,6 @@ pub struct Panel {
     pub spare: u8,
     pub w: WRecord,
     pub k: KRecord,
-    pub line: WaitingLine,
 }
 
 // "A box holds 1 to 8 panels, numbered from 1 in the order given."
@@ -99,18 +79,6 @@ pub struct Panel {
 pub struct DisplayBox {
     pub count: usize,
     pub panels: [Panel; 8],
-}
-
-// A panel that is not busy, with nothing waiting.
-pub fn free_line() -> WaitingLine
-    ensures { result ≡ free_line }
-{
-    WaitingLine {
-        busy: 0,
-        count: 0,
-        names: [0; 8],
-        values: [0; 8],
-    }
 }
 
 // A place that holds no panel: all zeros.
@@ -145,6 +113,5 @@ pub fn zero_panel() -> Panel
             kind: 0,
             port: 0,
         },
-        line: free_line(),
     }
 }

@@ -1,6 +1,6 @@
 -- The plain reader beside §1's receiver: up to where the reader ends, the buffer is a stream whose packets are the listed parts, and a
 -- receiver that is given a stream in one piece hands out its packets; so it does in any cutting.
-use Prim.Native.Nat.{ℕ, zero, suc, ◌+◌, ◌-◌, ◌≤◌, ◌<◌}
+use Prim.Native.Nat.{ℕ, suc, ◌+◌, ◌-◌, ◌≤◌, ◌<◌}
 use native.Mathlib.Omega.{arith}
 use native.Mathlib.Numerals.{add-one}
 use mathlib.Core.Bool.{Bool, true, false}
@@ -198,63 +198,3 @@ beside b e c =
 pub beside_all : (b : List ℕ) {r : Receiver} {ps os : List (List ℕ)} → (plain b).stopped ≡ 0 → joined ps ≡ b → Cuts (holding []) ps os r
     → (os ≡ parts b (plain b)) × (r ≡ holding (drop (plain b).end b))
 beside_all b s e c = let a = cuts_as (reads_all (way b) s) e c in (a.0 ∙ sym (plain_parts b), a.1)
-
--- ---- any receiver that holds nothing
-
-cuts_any : {l t : List ℕ} {r s : Receiver} {ps os us : List (List ℕ)} → ReadAs l us t → joined ps ≡ l → held_in r ≡ [] → Cuts r ps os s
-    → (os ≡ us) × (s ≡ holding t)
-cuts_any {l} {r = r} a e h c = cutting c (one (fed_as r l a (ap (◌++ l) h))) (e ∙ sym (append-nil l))
-
--- "empty at first": whatever its store holds, and one that claims to hold more than 512 too
-pub beside_any : (b : List ℕ) {r s : Receiver} {ps os : List (List ℕ)} → held_in r ≡ [] → joined ps ≡ take (plain b).end b → Cuts r ps os s
-    → os ≡ parts b (plain b)
-beside_any b h e c =
-    let k : (plain b).end - 0 ≡ (plain b).end = omega arith in
-    (cuts_any (reads (way b)).1.1 (e ∙ ap (λ (i : ℕ). take i b) (sym k)) h c).0 ∙ sym (plain_parts b)
-
--- ---- read on from where it ended
-
--- what the way lists, and then what the rest is read as
-way_on : {b t : List ℕ} {at : ℕ} {l f : Listing} {vs : List (List ℕ)} (v : Way b at l f) → ReadAs (drop f.end b) vs t → ReadAs (drop at b) (listed v ++ vs) t
-unfolding listed
-way_on (ends h q w) a = a
-way_on (stops h q w n) a = a
-way_on {b} {t} {at} {f = f} {vs = vs} (passes q v) a =
-    skip (skipped (drop at b) q) (subst (λ (x : List ℕ). ReadAs x (listed v ++ vs) t) (sym (drop-drop 1 at b)) (way_on v a))
-way_on {b} {t} {at} {f = f} {vs = vs} (notes n q w h v) a =
-    let o = sought_here (drop at b) q in
-    let d : drop (suc n) (sought (drop at b)) ≡ drop (at + suc n) b = ap (drop (suc n)) o ∙ drop-drop (suc n) at b in
-    next n (ap whole o ∙ w) (ap (take (suc n)) o) (subst (λ (x : List ℕ). ReadAs x (listed v ++ vs) t) (sym d) (way_on v a))
-
--- every stream can be read
-record Reading (l : List ℕ) : Type 0 where
-  packets : List (List ℕ)
-  left : List ℕ
-  read : ReadAs l packets left
-
--- each packet leaves fewer bytes
-reading : (n : ℕ) (l : List ℕ) → length l < n → Reading l
-reading zero l h = absurd (omega arith)
-reading (suc n) l h = go (whole (sought l)) refl (reading n)
-  where
-    go : (w : ℕ) → whole (sought l) ≡ w → ((m : List ℕ) → length m < n → Reading m) → Reading l
-    go zero e ih = record { packets = []; left = sought l; read = rest e refl }
-    go (suc k) e ih =
-        let v = (whole_is (sought l) k e).there in
-        let i = ih (drop (suc k) (sought l)) (omega (arith, v, length-drop (suc k) (sought l), length-drop (noise l) l)) in
-        record { packets = take (suc k) (sought l) ∷ i.packets; left = i.left; read = next k e refl i.read }
-
--- fed all the bytes, and not just those up to where the plain reader ended, a receiver that holds nothing hands out the listed things,
--- and then what an empty one hands out that is fed the rest; and it ends as that one does
-pub reads_on : (b : List ℕ) {r s t : Receiver} {ps qs os vs : List (List ℕ)}
-    → held_in r ≡ []
-    → joined ps ≡ b
-    → joined qs ≡ drop (plain b).end b
-    → Cuts r ps os s
-    → Cuts (holding []) qs vs t
-    → (os ≡ parts b (plain b) ++ vs) × (s ≡ t)
-reads_on b {vs = vs} h e f c d =
-    let i = reading (suc (length (drop (plain b).end b))) (drop (plain b).end b) (omega arith) in
-    let x = cuts_any (way_on (way b) i.read) e h c in
-    let y = cuts_as i.read f d in
-    (x.0 ∙ ap (◌++ i.packets) (sym (plain_parts b)) ∙ ap (parts b (plain b) ++◌) (sym y.0), x.1 ∙ sym y.1)

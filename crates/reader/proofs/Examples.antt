@@ -4,13 +4,15 @@ use mathlib.Core.Path.{◌≡◌, refl}
 use mathlib.Core.List.{List, [], ◌∷◌, ◌++◌}
 use lib.ListN.{replicate}
 use Rattle.laws.specs.Bytes.{ascii}
+use Rattle.laws.specs.Numbers.{number}
 use Rattle.sdcp_asks.specs.Asks.{front}
+use Rattle.receiver.specs.Stream.{agrees, size_of, whole}
 use Rattle.reader.specs.declared.Listing.{Listing}
 use Rattle.reader.specs.Plain.{noted, ends_at, between, inside, no_entries, plain, parts_at, parts}
 
 -- what a list computes with: a proof that unfolds `opened` unfolds all that is named here
 unfoldable pub opened : List ℕ → Listing
-unfolding between inside no_entries plain parts_at
+unfolding number agrees size_of whole between inside no_entries plain parts_at
 opened b = plain b
 
 -- a packet of two data bytes for a group and a unit, and a header with this data length

@@ -1,5 +1,4 @@
 pub mod Rules
-pub mod Same
 pub mod Ways
 pub mod Beside
 pub mod Listed

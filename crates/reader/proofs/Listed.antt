@@ -117,10 +117,11 @@ kept_at_end b = kept (way b) (record {
 
 -- ---- what an entry is
 
+abbrev pub IsWhole : List ℕ → ℕ → Type 0
+IsWhole o k = (is_ours o ≡ true) × (length o ≡ k) × (data_length_of o ≤ 499 → k ≡ 13 + data_length_of o) × (499 < data_length_of o → k ≡ 13)
+
 -- an empty receiver would hand it out
-entry_whole : (s : List ℕ) (k : ℕ) → can_begin s ≡ true → whole s ≡ k → 0 < k
-    → (is_ours (take k s) ≡ true) × (length (take k s) ≡ k)
-    × (data_length_of (take k s) ≤ 499 → k ≡ 13 + data_length_of (take k s)) × (499 < data_length_of (take k s) → k ≡ 13)
+entry_whole : (s : List ℕ) (k : ℕ) → can_begin s ≡ true → whole s ≡ k → 0 < k → IsWhole (take k s) k
 unfolding held_in holding
 entry_whole s zero q w h = absurd (omega arith)
 entry_whole s (suc n) q w h =
@@ -170,17 +171,8 @@ listed_rising b i j l m =
 pub listed_before : (b : List ℕ) (i : ℕ) → i < (plain b).count → start_at (plain b) i + length_at (plain b) i ≤ (plain b).end
 listed_before b = (kept_at_end b).within
 
--- the bytes of an entry
-abbrev pub entry_at : List ℕ → ℕ → List ℕ
-entry_at b i = take (length_at (plain b) i) (drop (start_at (plain b) i) b)
-
 -- "each packet and [..] each overlong header": an entry is a packet whole, and of an overlong one its 13 bytes
-pub listed_whole : (b : List ℕ) (i : ℕ)
-    → i < (plain b).count
-    → (is_ours (entry_at b i) ≡ true)
-    × (length (entry_at b i) ≡ length_at (plain b) i)
-    × (data_length_of (entry_at b i) ≤ 499 → length_at (plain b) i ≡ 13 + data_length_of (entry_at b i))
-    × (499 < data_length_of (entry_at b i) → length_at (plain b) i ≡ 13)
+pub listed_whole : (b : List ℕ) (i : ℕ) → i < (plain b).count → IsWhole (take (length_at (plain b) i) (drop (start_at (plain b) i) b)) (length_at (plain b) i)
 listed_whole b i h = let e = (kept_at_end b).entry i h in entry_whole (drop (start_at (plain b) i) b) (length_at (plain b) i) e.0 e.1 e.2
 
 -- "where an unfinished tail begins, else the buffer's end"

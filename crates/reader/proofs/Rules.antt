@@ -1,34 +1,17 @@
--- The two rules as the code goes: noise is passed over a byte a turn, and what is to come of a packet at once.
+-- The two rules as the code goes: noise is passed over at once, and so is a packet that is whole.
 use Prim.Native.Nat.{ℕ, zero, suc, ◌+◌, ◌-◌, ◌≤◌, ◌<◌}
 use native.Mathlib.Omega.{arith}
+use native.Mathlib.Nat.{add-zero}
 use mathlib.Core.Bool.{Bool, true, false, cond}
 use mathlib.Core.Path.{◌≡◌, refl, sym, ap, ◌∙◌}
 use mathlib.Core.List.{List, [], ◌∷◌}
-use lib.ListN.{length, take, drop, length-drop}
-use lib.Seq.{drop-drop}
-use lib.Dec.{leb}
-use borrow.Author.Tests.{lt-leb, lt-ltb, le-ltb, leb-true}
-use Rattle.laws.proofs.Conditions.{false_true, and_second}
+use lib.ListN.{length, take, drop, length-drop, drop_of_length-le}
+use borrow.Author.Tests.{lt-leb, lt-ltb, le-ltb, ne_eqb}
 use Rattle.laws.proofs.Lists.{rest}
+use Rattle.receiver.specs.Stream.{can_begin, noise, whole}
+use Rattle.receiver.proofs.Stream.{sought_begins, size_min, whole_is}
 use Rattle.reader.specs.declared.Listing.{Listing}
-use Rattle.reader.specs.Plain.{may_be, may_begin, length_said, is_overlong, entry_length, is_finished, noted as noted_of, ends_at, stops_at, between, inside}
-
--- ---- what is finished
-
--- the header at least
-pub entry_min : (b : List ℕ) (k : ℕ) → k ≡ entry_length b → 13 ≤ k
-unfolding entry_length
-entry_min b k e = go (is_overlong b) e
-  where
-    go : (t : Bool) → k ≡ cond t 13 (13 + length_said b) → 13 ≤ k
-    go true e = omega arith
-    go false e = omega arith
-
--- it is all in the buffer
-pub finished_in : (b : List ℕ) → is_finished b ≡ true → (13 ≤ entry_length b) × (entry_length b ≤ length b)
-unfolding is_finished
-finished_in b e =
-    (entry_min b (entry_length b) refl, leb-true (entry_length b) (length b) (and_second (leb 13 (length b)) (leb (entry_length b) (length b)) e))
+use Rattle.reader.specs.Plain.{noted as noted_of, ends_at, stops_at, between, inside}
 
 -- ---- byte by byte
 
@@ -37,7 +20,7 @@ unfolding between
 ended at l = refl
 
 -- all that is to come of a packet
-pub through : (xs : List ℕ) (k at : ℕ) (l : Listing) → 1 ≤ k → k ≤ length xs → inside xs k at l ≡ between (drop k xs) (at + k) l
+through : (xs : List ℕ) (k at : ℕ) (l : Listing) → 1 ≤ k → k ≤ length xs → inside xs k at l ≡ between (drop k xs) (at + k) l
 unfolding inside
 through [] k at l h g = absurd (omega arith)
 through (x ∷ xs) zero at l h g = absurd (omega arith)
@@ -49,66 +32,84 @@ through (x ∷ xs) (suc (suc k)) at l h g =
     rw (lt-leb (suc (suc k)) 1 a, j) (through xs (suc k) (at + 1) l (omega arith) (omega arith) ∙ ap (λ (z : ℕ). between (drop (suc k) xs) z l) i)
 
 module _ (x : ℕ) (xs : List ℕ) (at : ℕ) (l : Listing) where
-  pub passed : may_begin (x ∷ xs) ≡ false → between (x ∷ xs) at l ≡ between xs (at + 1) l
+  pub passed : can_begin (x ∷ xs) ≡ false → between (x ∷ xs) at l ≡ between xs (at + 1) l
   unfolding between
   passed e = rw e
 
-  pub tailed : may_begin (x ∷ xs) ≡ true → is_finished (x ∷ xs) ≡ false → between (x ∷ xs) at l ≡ ends_at l at
+  pub tailed : can_begin (x ∷ xs) ≡ true → whole (x ∷ xs) ≡ 0 → between (x ∷ xs) at l ≡ ends_at l at
   unfolding between
-  tailed e f = rw (e, f)
+  tailed e w = rw (e, w)
 
-  pub stopped : may_begin (x ∷ xs) ≡ true → is_finished (x ∷ xs) ≡ true → 64 ≤ l.count → between (x ∷ xs) at l ≡ stops_at l at
+  pub stopped : (n : ℕ) → can_begin (x ∷ xs) ≡ true → whole (x ∷ xs) ≡ suc n → 64 ≤ l.count → between (x ∷ xs) at l ≡ stops_at l at
   unfolding between
-  stopped e f h = rw (e, f, le-ltb _ _ h)
+  stopped n e w h = rw (e, w, le-ltb _ _ h, ne_eqb (suc n) 0 (λ z. omega arith))
 
-  pub noted : may_begin (x ∷ xs) ≡ true → is_finished (x ∷ xs) ≡ true → l.count < 64
-      → between (x ∷ xs) at l ≡ inside xs (entry_length (x ∷ xs) - 1) (at + 1) (noted_of l at (entry_length (x ∷ xs)))
+  pub noted : (n : ℕ) → can_begin (x ∷ xs) ≡ true → whole (x ∷ xs) ≡ suc n → l.count < 64
+      → between (x ∷ xs) at l ≡ between (drop (suc n) (x ∷ xs)) (at + suc n) (noted_of l at (suc n))
   unfolding between
-  noted e f h = rw (e, f, lt-ltb _ _ h)
+  noted n e w h =
+      let v = whole_is (x ∷ xs) n w in
+      let a : suc n - 1 ≡ n = omega arith in
+      let i : at + 1 + n ≡ at + suc n = omega arith in
+      let m : 1 ≤ n = omega (arith, size_min (x ∷ xs), v.sized) in
+      let f : n ≤ length xs = omega (arith, v.there) in
+      rw (e, w, lt-ltb _ _ h, ne_eqb (suc n) 0 (λ z. omega arith), a)
+      (through xs n (at + 1) (noted_of l at (suc n)) m f ∙ ap (λ (z : ℕ). between (drop n xs) z (noted_of l at (suc n))) i)
 
 -- ---- as the code goes: by parts of the buffer
 
-pub rest_long : (b : List ℕ) (k : ℕ) → length (take (length b - k) (drop k b)) ≡ length b - k
-rest_long b k = rw rest (length-drop k b)
+pub rest_long : (l : List ℕ) (k : ℕ) → length (take (length l - k) (drop k l)) ≡ length l - k
+rest_long l k = rw rest (length-drop k l)
 
--- a byte that is passed over
-pub passed_at : (b : List ℕ) (j : ℕ) → may_begin (take (length b - j) (drop j b)) ≡ false
-    → (j < length b) × ((at : ℕ) (l : Listing) → between (drop j b) (at + j) l ≡ between (drop (j + 1) b) (at + (j + 1)) l)
-unfolding may_be may_begin
-passed_at b j e = go (drop j b) refl (rw rest at e)
+pub whole_le : (l : List ℕ) (k : ℕ) → k ≡ whole l → k ≤ length l
+whole_le l zero e = omega arith
+whole_le l (suc k) e = (whole_is l k (sym e)).there
+
+to_noise : (at : ℕ) (a : Listing) (l : List ℕ) → between l at a ≡ between (drop (noise l) l) (at + noise l) a
+unfolding noise
+to_noise at a [] = rw add-zero
+to_noise at a (x ∷ l) = by_test (to_noise (at + 1) a l) (can_begin (x ∷ l)) refl
   where
-    go : (r : List ℕ) → drop j b ≡ r → may_begin r ≡ false
-        → (j < length b) × ((at : ℕ) (l : Listing) → between r (at + j) l ≡ between (drop (j + 1) b) (at + (j + 1)) l)
-    go [] d e = absurd (false_true (sym e))
-    go (x ∷ xs) d e =
-        let i : xs ≡ drop (j + 1) b = ap (drop 1) (sym d) ∙ drop-drop 1 j b in
-        (omega (arith, ap length d, length-drop j b), λ at l. passed x xs (at + j) l e ∙ (let k : at + j + 1 ≡ at + (j + 1) = omega arith in rw (i, k)))
+    by_test : between l (at + 1) a ≡ between (drop (noise l) l) (at + 1 + noise l) a → (b : Bool) → can_begin (x ∷ l) ≡ b
+        → between (x ∷ l) at a ≡ between (drop (cond b 0 (suc (noise l))) (x ∷ l)) (at + cond b 0 (suc (noise l))) a
+    by_test ih true e = rw add-zero
+    by_test ih false e =
+        let i : at + 1 + noise l ≡ at + suc (noise l) = omega arith in
+        passed x l at a e ∙ ih ∙ ap (λ (k : ℕ). between (drop (noise l) l) k a) i
 
--- where a packet may begin
-module _ (at : ℕ) (l : Listing) (b : List ℕ) (e : may_begin b ≡ true) where
-  pub tail_at : is_finished b ≡ false → between b at l ≡ ends_at l at
-  tail_at f = go b e f
+from_noise : (at : ℕ) (a : Listing) (l : List ℕ) (j : ℕ) → j ≡ noise l → between l at a ≡ between (drop j l) (at + j) a
+from_noise at a l j e = rw e (to_noise at a l)
+
+pub past_noise : (at : ℕ) (a f : Listing) (l : List ℕ) (j : ℕ) → j ≡ noise l → f ≡ between (take (length l - j) (drop j l)) (at + j) a → f ≡ between l at a
+past_noise at a f l j e g = (rw rest at g) ∙ sym (from_noise at a l j e)
+
+pub first_is : (l : List ℕ) (j : ℕ) → j ≡ noise l → can_begin (take (length l - j) (drop j l)) ≡ true
+first_is l j e = rw (rest, e) (sought_begins l)
+
+pub none_left : (at : ℕ) (a : Listing) (l : List ℕ) (j : ℕ) → j ≡ noise l → length l ≤ j → between l at a ≡ ends_at a (at + j)
+none_left at a l j e h = from_noise at a l j e ∙ ap (λ (x : List ℕ). between x (at + j) a) (drop_of_length-le l h) ∙ ended (at + j) a
+
+-- where a packet begins, and so much of it is whole
+module _ (at : ℕ) (a : Listing) (l : List ℕ) (k : ℕ) (h : 0 < length l) (e : can_begin l ≡ true) (w : k ≡ whole l) where
+  pub tail_at : k ≡ 0 → between l at a ≡ ends_at a at
+  tail_at z = go l h e w
     where
-      go : (b : List ℕ) → may_begin b ≡ true → is_finished b ≡ false → between b at l ≡ ends_at l at
-      go [] e f = ended at l
-      go (x ∷ xs) e f = tailed x xs at l e f
+      go : (l : List ℕ) → 0 < length l → can_begin l ≡ true → k ≡ whole l → between l at a ≡ ends_at a at
+      go [] h e w = absurd (omega arith)
+      go (x ∷ l) h e w = tailed x l at a e (sym w ∙ z)
 
-  pub stop_at : is_finished b ≡ true → 64 ≤ l.count → between b at l ≡ stops_at l at
-  stop_at f h = go b e f
+  pub stop_at : (k ≡ 0 → ⊥) → 64 ≤ a.count → between l at a ≡ stops_at a at
+  stop_at z f = go l k h e w z
     where
-      go : (b : List ℕ) → may_begin b ≡ true → is_finished b ≡ true → between b at l ≡ stops_at l at
-      go [] e f = absurd (omega (arith, finished_in [] f))
-      go (x ∷ xs) e f = stopped x xs at l e f h
+      go : (l : List ℕ) (k : ℕ) → 0 < length l → can_begin l ≡ true → k ≡ whole l → (k ≡ 0 → ⊥) → between l at a ≡ stops_at a at
+      go [] k h e w z = absurd (omega arith)
+      go (x ∷ l) zero h e w z = absurd (z refl)
+      go (x ∷ l) (suc k) h e w z = stopped x l at a k e (sym w) f
 
-  pub note_at : (f : Listing) (k : ℕ) → k ≡ entry_length b → is_finished b ≡ true → l.count < 64
-      → f ≡ inside (take (length b - 1) (drop 1 b)) (k - 1) (at + 1) (noted_of l at k) → f ≡ between b at l
-  note_at f k w z h g = (rw (rest, w) at g) ∙ sym (go b e z)
+  pub note_at : (f : Listing) → (k ≡ 0 → ⊥) → a.count < 64 → f ≡ between (take (length l - k) (drop k l)) (at + k) (noted_of a at k) → f ≡ between l at a
+  note_at f z r g = (rw rest at g) ∙ sym (go l k h e w z)
     where
-      go : (b : List ℕ) → may_begin b ≡ true → is_finished b ≡ true
-          → between b at l ≡ inside (drop 1 b) (entry_length b - 1) (at + 1) (noted_of l at (entry_length b))
-      go [] e z = absurd (omega (arith, finished_in [] z))
-      go (x ∷ xs) e z = noted x xs at l e z h
-
--- in a packet
-pub through_at : (at k : ℕ) (l f : Listing) (b : List ℕ) → 1 ≤ k → k ≤ length b → f ≡ between (take (length b - k) (drop k b)) (at + k) l → f ≡ inside b k at l
-through_at at k l f b h g e = (rw rest at e) ∙ sym (through b k at l h g)
+      go : (l : List ℕ) (k : ℕ) → 0 < length l → can_begin l ≡ true → k ≡ whole l → (k ≡ 0 → ⊥) → between l at a ≡ between (drop k l) (at + k) (noted_of a at k)
+      go [] k h e w z = absurd (omega arith)
+      go (x ∷ l) zero h e w z = absurd (z refl)
+      go (x ∷ l) (suc k) h e w z = noted x l at a k e (sym w) r

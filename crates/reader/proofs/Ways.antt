@@ -1,6 +1,5 @@
 -- The way of the plain reader through a buffer: each of its steps is one of four, so what is kept by the four holds of the whole list.
--- The steps are told by §1's tests, which are its own (`Same`).
-use Prim.Native.Nat.{ℕ, zero, suc, ◌+◌, ◌-◌, ◌≤◌, ◌<◌}
+use Prim.Native.Nat.{ℕ, zero, suc, ◌+◌, ◌≤◌, ◌<◌}
 use native.Mathlib.Omega.{arith}
 use mathlib.Core.Bool.{Bool, true, false}
 use mathlib.Core.Path.{◌≡◌, refl, sym, ap, subst, ◌∙◌}
@@ -12,9 +11,8 @@ use borrow.Author.Tests.{ltb-true, ltb-false}
 use Rattle.receiver.specs.Stream.{agrees, can_begin, whole}
 use Rattle.receiver.proofs.Stream.{whole_is}
 use Rattle.reader.specs.declared.Listing.{Listing}
-use Rattle.reader.specs.Plain.{noted as noted_of, ends_at, stops_at, between, inside, no_entries, plain}
-use Rattle.reader.proofs.Rules.{finished_in, ended, through, passed, tailed, stopped, noted}
-use Rattle.reader.proofs.Same.{same_front, unfinished, finished}
+use Rattle.reader.specs.Plain.{noted as noted_of, ends_at, stops_at, between, no_entries, plain}
+use Rattle.reader.proofs.Rules.{ended, passed, tailed, stopped, noted}
 
 -- from a place on, with this list there: the list at the end
 pub data Way (b : List ℕ) : ℕ → Listing → Listing → Type 0 where
@@ -23,19 +21,6 @@ pub data Way (b : List ℕ) : ℕ → Listing → Listing → Type 0 where
   stops : {at : ℕ} {l : Listing} → at ≤ length b → can_begin (drop at b) ≡ true → (whole (drop at b) ≡ 0 → ⊥) → 64 ≤ l.count → Way b at l (stops_at l at)
   passes : {at : ℕ} {l f : Listing} → can_begin (drop at b) ≡ false → Way b (at + 1) l f → Way b at l f
   notes : {at : ℕ} {l f : Listing} (n : ℕ) → can_begin (drop at b) ≡ true → whole (drop at b) ≡ suc n → l.count < 64 → Way b (at + suc n) (noted_of l at (suc n)) f → Way b at l f
-
--- a whole packet is listed, and the rest is read on behind it
-noted_whole : (x : ℕ) (xs : List ℕ) (at : ℕ) (l : Listing) (n : ℕ) → can_begin (x ∷ xs) ≡ true → whole (x ∷ xs) ≡ suc n → l.count < 64
-    → between (x ∷ xs) at l ≡ between (drop n xs) (at + suc n) (noted_of l at (suc n))
-noted_whole x xs at l n q w h =
-    let f = finished (x ∷ xs) n w in
-    let k = finished_in (x ∷ xs) f.0 in
-    let m = noted_of l at (suc n) in
-    let a : suc n - 1 ≡ n = omega arith in
-    let i : at + 1 + n ≡ at + suc n = omega arith in
-    noted x xs at l (same_front (x ∷ xs) ∙ q) f.0 h ∙ ap (λ (k : ℕ). inside xs (k - 1) (at + 1) (noted_of l at k)) f.1
-    ∙ ap (λ (k : ℕ). inside xs k (at + 1) m) a ∙ through xs n (at + 1) m (omega (arith, k, f.1)) (omega (arith, k, f.1))
-    ∙ ap (λ (k : ℕ). between (drop n xs) k m) i
 
 module _ (b : List ℕ) where
   at_end : (at : ℕ) (l : Listing) → at ≡ length b → Way b at l (between (drop at b) at l)
@@ -58,20 +43,20 @@ module _ (b : List ℕ) where
           let m = ltb-true l.count 64 i in
           let d : drop (suc n) (x ∷ xs) ≡ drop (at + suc n) b = ap (drop (suc n)) (sym e) ∙ drop-drop (suc n) at b in
           let k : at + suc n ≤ length b = omega (arith, (whole_is (x ∷ xs) n w).there, ap length e, length-drop at b) in
-          rw (noted_whole x xs at l n q w m, d) (notes n (ap can_begin e ∙ q) (ap whole e ∙ w) m (ih (at + suc n) (noted_of l at (suc n)) (omega arith) k))
+          rw (noted x xs at l n q w m, d) (notes n (ap can_begin e ∙ q) (ap whole e ∙ w) m (ih (at + suc n) (noted_of l at (suc n)) (omega arith) k))
       by_room n q w false i =
-          rw (stopped x xs at l (same_front (x ∷ xs) ∙ q) (finished (x ∷ xs) n w).0 (ltb-false l.count 64 i))
+          rw (stopped x xs at l n q w (ltb-false l.count 64 i))
           (stops le (ap can_begin e ∙ q) (λ z. omega (arith, ap whole e ∙ w, z)) (ltb-false l.count 64 i))
 
       by_whole : can_begin (x ∷ xs) ≡ true → (n : ℕ) → whole (x ∷ xs) ≡ n → Way b at l (between (x ∷ xs) at l)
-      by_whole q zero w = rw (tailed x xs at l (same_front (x ∷ xs) ∙ q) (unfinished (x ∷ xs) w)) (ends le (ap can_begin e ∙ q) (ap whole e ∙ w))
+      by_whole q zero w = rw (tailed x xs at l q w) (ends le (ap can_begin e ∙ q) (ap whole e ∙ w))
       by_whole q (suc n) w = by_room n q w (ltb l.count 64) refl
 
       by_sight : (t : Bool) → can_begin (x ∷ xs) ≡ t → Way b at l (between (x ∷ xs) at l)
       by_sight true q = by_whole q (whole (x ∷ xs)) refl
       by_sight false q =
           let d : xs ≡ drop (at + 1) b = ap (drop 1) (sym e) ∙ drop-drop 1 at b in
-          rw (passed x xs at l (same_front (x ∷ xs) ∙ q), d) (passes (ap can_begin e ∙ q) (ih (at + 1) l (omega arith) (omega arith)))
+          rw (passed x xs at l q, d) (passes (ap can_begin e ∙ q) (ih (at + 1) l (omega arith) (omega arith)))
 
   from : (n at : ℕ) (l : Listing) → length b ≤ at + n → at ≤ length b → Way b at l (between (drop at b) at l)
   from zero at l h le = at_end at l (omega arith)

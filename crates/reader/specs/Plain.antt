@@ -1,35 +1,8 @@
 -- Document 02, §7: the plain reader "has two rules over a whole buffer: between packets, and in a packet, each passing the rest of the
--- bytes to the other". It is there to check §1's receiver, so what it asks of the bytes is said here anew and nothing of the receiver's
--- is used; that both ask the same is proved (`proofs/Same`).
-use Rattle.std.specs.Prelude.{ℕ, ◌+◌, ◌-◌, ◌*◌, Bool, cond, ◌&&◌, ◌||◌, List, [], ◌∷◌, length, get_or, take, drop, set, replicate, eqb, ltb, leb}
+-- bytes to the other". What can begin a packet, and how much of it stands whole, are §1's.
+use Rattle.std.specs.Prelude.{ℕ, ◌+◌, ◌-◌, cond, List, [], ◌∷◌, take, drop, set, replicate, eqb, ltb, leb}
+use Rattle.receiver.specs.Stream.{can_begin, whole}
 use Rattle.reader.specs.declared.Listing.{Listing}
-
--- ---- what it asks of the bytes
-
--- this byte is at this place, or the buffer has ended before it
-unfoldable pub may_be : List ℕ → ℕ → ℕ → Bool
-may_be b i x = leb (length b) i || eqb (get_or b i 0) x
-
--- "the next bytes can begin 03h 0Bh "SONY""
-unfoldable pub may_begin : List ℕ → Bool
-may_begin b = may_be b 0 0x03 && may_be b 1 0x0b && may_be b 2 0x53 && may_be b 3 0x4f && may_be b 4 0x4e && may_be b 5 0x59
-
--- "with 13 bytes it knows the length": the last two of them say it, the high byte first
-unfoldable pub length_said : List ℕ → ℕ
-length_said b = 256 * get_or b 11 0 + get_or b 12 0
-
--- "With a length over 499 just those 13 bytes [..]. Other packets [..] whole"
-unfoldable pub is_overlong : List ℕ → Bool
-is_overlong b = ltb 499 (length_said b)
-
-unfoldable pub entry_length : List ℕ → ℕ
-entry_length b = cond (is_overlong b) 13 (13 + length_said b)
-
--- the 13 bytes are there, and so are all that are to be listed
-unfoldable pub is_finished : List ℕ → Bool
-is_finished b = leb 13 (length b) && leb (entry_length b) (length b)
-
--- ---- what it lists
 
 abbrev pub listing : ℕ → List ℕ → List ℕ → ℕ → ℕ → Listing
 listing count starts lengths end stopped = record { count = count; starts = starts; lengths = lengths; end = end; stopped = stopped }
@@ -46,18 +19,16 @@ ends_at l at = listing l.count l.starts l.lengths at 0
 abbrev pub stops_at : Listing → ℕ → Listing
 stops_at l at = listing l.count l.starts l.lengths at 1
 
--- ---- the two rules
-
 unfoldable mutual
-  -- "between packets": a byte that can begin no packet is passed over. What begins one and is not finished is "an unfinished tail"; what is
-  -- finished is listed, and behind its first byte the rest is passed to the other rule, or it is "a 65th"
+  -- "between packets": a byte that can begin no packet is passed over. What begins one and is not whole is "an unfinished tail"; what is
+  -- whole is listed, and behind its first byte the rest is passed to the other rule, or it is "a 65th"
   pub between : List ℕ → ℕ → Listing → Listing
   between [] at l = ends_at l at
   between (x ∷ xs) at l =
-      cond (may_begin (x ∷ xs))
-      (cond (is_finished (x ∷ xs))
-      (cond (ltb l.count 64) (inside xs (entry_length (x ∷ xs) - 1) (at + 1) (noted l at (entry_length (x ∷ xs)))) (stops_at l at))
-      (ends_at l at))
+      cond (can_begin (x ∷ xs))
+      (cond (eqb (whole (x ∷ xs)) 0)
+      (ends_at l at)
+      (cond (ltb l.count 64) (inside xs (whole (x ∷ xs) - 1) (at + 1) (noted l at (whole (x ∷ xs)))) (stops_at l at)))
       (between xs (at + 1) l)
 
   -- "and in a packet": k bytes of it are to come, and behind the last of them the rest is passed back
@@ -69,9 +40,7 @@ unfoldable mutual
 unfoldable pub no_entries : Listing
 no_entries = listing 0 (replicate 64 0) (replicate 64 0) 0 0
 
--- a proof that opens `plain` opens what is asked of the bytes too
 unfoldable pub plain : List ℕ → Listing
-unfolding may_be may_begin length_said is_overlong entry_length is_finished
 plain b = between b 0 no_entries
 
 -- the things that are listed, in their order: each is so many bytes of the buffer, from its start on

@@ -5,10 +5,17 @@ use mathlib.Core.List.{List, []}
 use Rattle.laws.proofs.Bytes.{sent_one}
 use Rattle.receiver.specs.declared.Receiver.{Receiver}
 use Rattle.receiver.specs.declared.Received.{Received}
+use Rattle.receiver.specs.Stream.{noise, whole}
 use Rattle.receiver.specs.Calls.{holding, Given, Receives}
 
 pub empty_receiver_one : (r r' : Receiver) → r ≡ holding [] → r' ≡ holding [] → r ≡ r'
 empty_receiver_one r r' p q = p ∙ sym q
+
+pub noise_in_one : (s : List ℕ) (r r' : ℕ) → r ≡ noise s → r' ≡ noise s → r ≡ r'
+noise_in_one s r r' p q = p ∙ sym q
+
+pub whole_in_one : (s : List ℕ) (r r' : ℕ) → r ≡ whole s → r' ≡ whole s → r ≡ r'
+whole_in_one s r r' p q = p ∙ sym q
 
 pub take_piece_one : (g : Given) (area : List ℕ) (r r' : Received) (x x' : List ℕ) → Receives g area r x → Receives g area r' x' → (r ≡ r') × (x ≡ x')
 take_piece_one g area r r' x x' p q =

@@ -67,7 +67,7 @@ fn begins_at(s: &[u8], j: usize) -> bool
 }
 
 // How many bytes are dropped until the next can begin a packet.
-fn noise_in(s: &[u8]) -> usize
+pub fn noise_in(s: &[u8]) -> usize
     ensures { result ≡ noise s.now }
 {
     let mut j = 0;
@@ -149,6 +149,13 @@ fn whole_of(h: &[u8], p: &[u8], j: usize) -> usize
         return 0;
     }
     n
+}
+
+// How much stands whole at the front of an area.
+pub fn whole_in(s: &[u8]) -> usize
+    ensures { result ≡ whole s.now }
+{
+    whole_of(s, &s[..0], 0)
 }
 
 // Two parts, one behind the other, 0 behind them.

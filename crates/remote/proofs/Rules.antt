@@ -2,15 +2,16 @@
 use Prim.Native.Nat.{ℕ, ◌<◌, ◌≤◌}
 use mathlib.Core.Path.{◌≡◌, refl, sym, ap, ◌∙◌}
 use mathlib.Core.Bool.{Bool, true, false, cond, ◌||◌}
-use mathlib.Core.List.{List, [], ◌∷◌, map, Memᴰ}
+use mathlib.Core.List.{List, [], ◌∷◌, ◌++◌, map, Memᴰ}
 use native.Mathlib.Omega.{arith}
 use lib.Dec.{eqb, leb}
-use lib.ListN.{get_or}
+use lib.ListN.{get_or, replicate, get_or-map}
 use borrow.Author.Tests.{leb-true}
 use Rattle.laws.specs.Lists.{every, listed, places}
 use Rattle.laws.proofs.Conditions.{and_first, and_second, choose, false_true}
 use Rattle.laws.proofs.Lists.{listed_every, places_at}
 use Rattle.remote.specs.Codes.{Code, codes, asked_in, button_of}
+use Rattle.remote.specs.Buttons.{button_numbered}
 use Rattle.remote.specs.declared.Button.{Button}
 use Rattle.remote.specs.declared.Button.TheVariants.{Unlisted, Idle, Louder, Softer, Mute, Picture, Power, Hdmi}
 
@@ -49,11 +50,6 @@ asks_one c m e = false_true (ap is_button (sym e) ∙ of_each (λ (r : Code). is
 abbrev pub numbers : List ℕ
 numbers = map (λ (c : Code). c.code) codes
 
--- each of them is a button's: `unlisted` leaves out no more
-pub listed_button : (n : ℕ) → listed numbers n ≡ true → button_of n ≡ Unlisted → ⊥
-unfolding button_of asked_in
-listed_button n e u = false_true (ap is_button (sym u) ∙ listed_every (λ (x : ℕ). is_button (button_of x)) numbers n refl e)
-
 unlisted_in : (cs : List Code) (n : ℕ) → listed (map (λ (c : Code). c.code) cs) n ≡ false → asked_in cs n ≡ Unlisted
 unfolding asked_in
 unlisted_in [] n e = refl
@@ -87,17 +83,22 @@ beyond n h = unlisted n (go (listed numbers n) refl)
     go false e = refl
     go true e = let k : n ≤ 130 = leb-true n 130 (listed_every (λ (x : ℕ). leb x 130) numbers n refl e) in absurd (omega arith)
 
--- ---- the code's tables
+-- ---- the code's bytes are the table's
 
--- f is what the code's table gives, as its walk has it, and g what is promised: computed to be the same at each place, they are at the one
--- that is looked up
-pub at_place :
-    {b x : Button} {size : ℕ} (f g : ℕ → Button) (n : ℕ) →
-    b ≡ x → ((k : ℕ) → n ≡ k → (y : Button) → y ≡ x → y ≡ f k) → n < size → places size 0 f ≡ places size 0 g → b ≡ g n
-at_place {b} {x} {size} f g n p is h e =
-    is n refl b p
-    ∙ ap f (omega arith)
-    ∙ sym (places_at size 0 n f Unlisted h)
-    ∙ ap (λ (l : List Button). get_or l n Unlisted) e
-    ∙ places_at size 0 n g Unlisted h
-    ∙ ap g (omega arith)
+-- the code's table
+abbrev pub acts : List ℕ
+acts =
+    replicate 5 0 ++ replicate 23 1 ++ replicate 2 0 ++ (2 ∷ 3 ∷ 4 ∷ 1 ∷ 1 ∷ 1 ∷ 0 ∷ 0 ∷ 1 ∷ []) ++ replicate 11 0 ++ (5 ∷ []) ++ replicate 10 0
+    ++ (1 ∷ 1 ∷ []) ++ replicate 13 0 ++ replicate 7 1 ++ (0 ∷ 1 ∷ 0 ∷ 1 ∷ 1 ∷ []) ++ replicate 10 0 ++ (6 ∷ 1 ∷ 0 ∷ 1 ∷ 0 ∷ 0 ∷ 1 ∷ 1 ∷ 0 ∷ 0 ∷ 1 ∷ 0 ∷ 1 ∷ [])
+    ++ replicate 10 0 ++ (1 ∷ 0 ∷ 0 ∷ 7 ∷ 8 ∷ 9 ∷ 10 ∷ 0 ∷ 1 ∷ 1 ∷ [])
+
+acts_are : map button_numbered acts ≡ places 131 0 button_of
+unfolding button_of asked_in
+acts_are = refl
+
+pub act_is : (n : ℕ) → n < 131 → button_numbered (get_or acts n 0) ≡ button_of n
+act_is n h =
+    sym (get_or-map button_numbered acts n 0)
+    ∙ ap (λ (l : List Button). get_or l n Unlisted) acts_are
+    ∙ places_at 131 0 n button_of Unlisted h
+    ∙ ap button_of (omega arith)

@@ -1,9 +1,7 @@
 pub mod AskedBack
 mod Bits
-pub mod Busy
 pub mod Determined
 mod Examples
 pub mod Validity
 pub mod Refusals
 pub mod Stays
-pub mod Exact

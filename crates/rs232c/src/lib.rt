@@ -1,9 +1,9 @@
 // RS-232C: what a W panel does with a frame (document 01, "RS-232C (002, 004)").
 ghost use Rattle.std.specs.Prelude.{◌≡◌};
 ghost use Rattle.turns.specs.Turns.{Takes};
-ghost use Rattle.rs232c_asks.specs.Asks.{heard_of, values_of};
+ghost use Rattle.rs232c_asks.specs.Asks.{values_of};
 ghost use Rattle.rs232c.specs.Orders.{carried};
-ghost use Rattle.rs232c.specs.Replies.{turn_of, while_busy, turn_at};
+ghost use Rattle.rs232c.specs.Replies.{turn_of};
 
 use panels::WRecord;
 use rs232c_asks::{Heard, Order, hear};
@@ -51,8 +51,8 @@ fn carry(o: Order, m: &[u8], w: WRecord) -> WRecord
     }
 }
 
-// A frame on the RS-232C port of a W panel that is not busy.
-fn take_free(w: WRecord, m: &[u8], area: &mut [u8]) -> Outcome
+// A frame on the RS-232C port of a W panel.
+pub fn take_frame(w: WRecord, m: &[u8], area: &mut [u8]) -> Outcome
     ensures { Takes (turn_of m.now) w area.old result.after result.answer result.len area.new }
 {
     if area.len() < 512 {
@@ -96,59 +96,4 @@ fn take_free(w: WRecord, m: &[u8], area: &mut [u8]) -> Outcome
             }
         }
     }
-}
-
-// A frame on the RS-232C port of a W panel that is busy: NAK, whatever it asks.
-fn take_busy(w: WRecord, m: &[u8], area: &mut [u8]) -> Outcome
-    ensures { Takes (while_busy (heard_of m.now)) w area.old result.after result.answer result.len area.new }
-{
-    if area.len() < 512 {
-        return Outcome {
-            after: w,
-            answer: Answer::AreaTooSmall,
-            len: 0,
-        };
-    }
-    let ask = hear(m);
-    match ask {
-        Heard::Refused(answer) => Outcome {
-            after: w,
-            answer,
-            len: 0,
-        },
-        Heard::Broken(source, part) => {
-            let len = send(Reply::Nak(source), area);
-            Outcome {
-                after: w,
-                answer: Answer::PartWrong(part),
-                len,
-            }
-        }
-        Heard::NotUnderstood(source) => {
-            let len = send(Reply::Nak(source), area);
-            Outcome {
-                after: w,
-                answer: Answer::Busy,
-                len,
-            }
-        }
-        Heard::Understood(source, _) => {
-            let len = send(Reply::Nak(source), area);
-            Outcome {
-                after: w,
-                answer: Answer::Busy,
-                len,
-            }
-        }
-    }
-}
-
-// A frame on the RS-232C port of a W panel, busy or not.
-pub fn take_frame(w: WRecord, busy: bool, m: &[u8], area: &mut [u8]) -> Outcome
-    ensures { Takes (turn_at busy m.now) w area.old result.after result.answer result.len area.new }
-{
-    if busy {
-        return take_busy(w, m, area);
-    }
-    take_free(w, m, area)
 }

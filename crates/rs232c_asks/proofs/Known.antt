@@ -7,7 +7,7 @@ use native.Mathlib.Omega.{arith}
 use lib.Count.{ones}
 use lib.Dec.{eqb}
 use lib.ListN.{length, drop, length-drop}
-use borrow.Author.Tests.{eqb-true, eq-eqb}
+use borrow.Author.Tests.{eqb-true}
 use Rattle.laws.specs.Lists.{listed}
 use Rattle.laws.proofs.Conditions.{and_first, and_second, choose}
 use Rattle.terms.specs.Answers.{number_of}
@@ -26,7 +26,7 @@ Known code bytes (Broken s p) = Unit {0}
 Known code bytes (NotUnderstood s) = Unit {0}
 Known code bytes (Understood s (Config marks byte)) = (code ≡ 0x21) × (bytes ≡ marks ∷ byte ∷ []) × (config_good marks byte ≡ true)
 Known code bytes (Understood s (Select byte)) = (code ≡ 0x22) × (bytes ≡ byte ∷ []) × (select_good byte ≡ true)
-Known code bytes (Understood s (Levels mask)) = (code ≡ 0x40) × (length bytes ≡ 1 + 2 * ones (mask % 64)) × (first bytes ≡ mask)
+Known code bytes (Understood s (Levels mask)) = (code ≡ 0x40) × (length bytes ≡ 1 + 2 * ones (mask % 64))
 Known code bytes (Understood s (Sense which)) = (code ≡ 0x61) × (bytes ≡ which ∷ []) × ((eqb which 1 || eqb which 2) ≡ true)
 Known code bytes (Understood s Remote) = (code ≡ 0x6e) × (bytes ≡ [])
 
@@ -60,7 +60,7 @@ module _ (source code : ℕ) (bytes : List ℕ) where
 
   levels_known : code ≡ 0x40 → Known code bytes (levels_command source bytes)
   unfolding levels_command
-  levels_known c = choose (Known code bytes) (eqb (length bytes) (1 + 2 * ones (first bytes % 64))) _ _ (λ e. (c, eqb-true (length bytes) (1 + 2 * ones (first bytes % 64)) e, refl)) (λ e. tt)
+  levels_known c = choose (Known code bytes) (eqb (length bytes) (1 + 2 * ones (first bytes % 64))) _ _ (λ e. (c, eqb-true (length bytes) (1 + 2 * ones (first bytes % 64)) e)) (λ e. tt)
 
   sense_known : code ≡ 0x61 → Known code bytes (sense_command source bytes)
   unfolding sense_command
@@ -84,15 +84,6 @@ module _ (source code : ℕ) (bytes : List ℕ) where
 
 pub heard_known : (m : List ℕ) → Known (code_of m) (data_of m) (heard_of m)
 heard_known m = by_rungs (Known (code_of m) (data_of m)) m refl refl (λ p w. tt) (command_known (source_of m) (code_of m) (data_of m))
-
--- and the other way: of a command this is said of one order alone
-pub known_is : (source code : ℕ) (bytes : List ℕ) (o : Order) → Known code bytes (Understood source o) → command_of source code bytes ≡ Understood source o
-unfolding command_of config_command select_command levels_command sense_command remote_command
-known_is source code bytes (Config marks byte) k = rw (k.0, k.1, k.2)
-known_is source code bytes (Select byte) k = rw (k.0, k.1, k.2)
-known_is source code bytes (Levels mask) k = rw (k.0, k.2, eq-eqb (length bytes) (1 + 2 * ones (mask % 64)) k.1)
-known_is source code bytes (Sense which) k = rw (k.0, k.1, k.2)
-known_is source code bytes Remote k = rw (k.0, k.1)
 
 -- the same of a message that was understood
 pub understood_known : (m : List ℕ) (s : ℕ) (o : Order) → heard_of m ≡ Understood s o → Known (code_of m) (data_of m) (Understood s o)

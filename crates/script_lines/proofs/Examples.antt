@@ -12,7 +12,7 @@ use Rattle.script_lines.specs.Orders.{asks, panel_kinds, asks_box, order_in, is_
 use Rattle.script_boxes.specs.Boxes.{panels_in, configuration, configuration_of}
 use Rattle.script_lines.specs.declared.Order.{Order}
 use Rattle.script_lines.specs.declared.Order.TheVariants.{OnBox, Piece}
-use Rattle.script_lines.specs.declared.BoxOrder.TheVariants.{Passed, Unread, Box, Rs232, Kjw, Tcp, Udp, Busy, Free, Show, Advert, Write, Sum, Plain}
+use Rattle.script_lines.specs.declared.BoxOrder.TheVariants.{Passed, Unread, Box, Rs232, Kjw, Tcp, Udp, Show, Advert, Write, Sum, Plain}
 
 -- what the lines of a text are, one after the other
 orders : List String → List Order
@@ -24,12 +24,12 @@ read : List String
 read =
     "box" ∷ "box W 1 1 K 0 0" ∷
     "rs232 1 0 -" ∷ "kjw 4294967295 1024 00" ∷ "tcp 1 512 0aFF" ∷ "udp -" ∷
-    "busy 1" ∷ "free 4294967295" ∷ "show 0" ∷ "advert 44" ∷ "sum 8c00" ∷
+    "show 0" ∷ "advert 44" ∷ "sum 8c00" ∷
     "write 122 11 4c4d 3106846 0 - 0 0 0 0 0 0 - - 1 1" ∷
     "piece 1 512 00" ∷ "piece 8 0 -" ∷
     "plain -" ∷ "plain 030b" ∷ []
 
-taken : orders read ≡ map OnBox (Box ∷ Box ∷ Rs232 ∷ Kjw ∷ Tcp ∷ Udp ∷ Busy ∷ Free ∷ Show ∷ Advert ∷ Sum ∷ Write ∷ []) ++ (Piece ∷ Piece ∷ OnBox Plain ∷ OnBox Plain ∷ [])
+taken : orders read ≡ map OnBox (Box ∷ Box ∷ Rs232 ∷ Kjw ∷ Tcp ∷ Udp ∷ Show ∷ Advert ∷ Sum ∷ Write ∷ []) ++ (Piece ∷ Piece ∷ OnBox Plain ∷ OnBox Plain ∷ [])
 unfolding read orders order_of is_passed_over asks_box asks panels_in panel_kinds words_in shaped is_kind is_family is_link is_hex is_hex_digit is_digit up_to is_numeral leads_zero decimal order_in
 taken = refl
 
@@ -40,11 +40,10 @@ unread =
     "box " ∷ " box" ∷ "box W 01 1" ∷ "box W 1 256" ∷ "box W 1" ∷ "box M 1 1" ∷
     "udp" ∷ "udp  00" ∷ "udp 00 " ∷ "udp 0" ∷ "udp 0g" ∷ "udp 00 00" ∷ "UDP 00" ∷ "udp\t00" ∷
     "show 4294967296" ∷ "show -1" ∷ "tcp 1 1025 00" ∷
-    "busy" ∷ "busy 1 1" ∷ "Busy 1" ∷ "free x" ∷ "free 4294967296" ∷
     "piece 0 512 00" ∷ "piece 9 512 00" ∷ "piece 01 512 00" ∷ "piece 1 1025 00" ∷
     "plain" ∷ "plain 0" ∷ "plain 00 00" ∷ []
 
-refused : orders unread ≡ replicate 29 (OnBox Unread)
+refused : orders unread ≡ replicate 24 (OnBox Unread)
 unfolding unread orders order_of is_passed_over asks_box asks panels_in panel_kinds words_in shaped is_kind is_family is_link is_hex is_hex_digit is_digit up_to is_numeral leads_zero decimal order_in
 refused = refl
 

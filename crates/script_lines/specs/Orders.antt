@@ -5,7 +5,7 @@ use Rattle.laws.specs.Bytes.{ascii, same}
 use Rattle.script_words.specs.Words.{words_in, word_at}
 use Rattle.script_lines.specs.declared.Order.{Order}
 use Rattle.script_lines.specs.declared.Order.TheVariants.{OnBox, Piece}
-use Rattle.script_lines.specs.declared.BoxOrder.TheVariants.{Passed, Unread, Box, Rs232, Kjw, Tcp, Udp, Busy, Free, Show, Advert, Write, Sum, Plain}
+use Rattle.script_lines.specs.declared.BoxOrder.TheVariants.{Passed, Unread, Box, Rs232, Kjw, Tcp, Udp, Show, Advert, Write, Sum, Plain}
 use Rattle.script_words.specs.Kinds.{Kind, a_hex, a_family, a_link, a_number, most_n, most_area, shaped}
 use Rattle.script_boxes.specs.Boxes.{panels_in}
 
@@ -57,8 +57,6 @@ order_rows =
     row "kjw" message_kinds (OnBox Kjw) ∷
     row "tcp" message_kinds (OnBox Tcp) ∷
     row "udp" (a_hex ∷ []) (OnBox Udp) ∷
-    row "busy" (any_n ∷ []) (OnBox Busy) ∷
-    row "free" (any_n ∷ []) (OnBox Free) ∷
     row "show" (any_n ∷ []) (OnBox Show) ∷
     row "advert" (a_hex ∷ []) (OnBox Advert) ∷
     row "write" write_kinds (OnBox Write) ∷

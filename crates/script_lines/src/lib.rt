@@ -17,8 +17,6 @@ pub enum BoxOrder {
     Kjw,
     Tcp,
     Udp,
-    Busy,
-    Free,
     Show,
     Advert,
     Write,
@@ -71,13 +69,11 @@ const PANELS: [u32; 48] = [
 
 // The rows of the other orders: a row is a word, the kinds of the words behind it, and the order that it is. The words stand one
 // behind the other, and so do the kinds.
-const ORDERS: [Order; 12] = [
+const ORDERS: [Order; 10] = [
     Order::OnBox(BoxOrder::Rs232),
     Order::OnBox(BoxOrder::Kjw),
     Order::OnBox(BoxOrder::Tcp),
     Order::OnBox(BoxOrder::Udp),
-    Order::OnBox(BoxOrder::Busy),
-    Order::OnBox(BoxOrder::Free),
     Order::OnBox(BoxOrder::Show),
     Order::OnBox(BoxOrder::Advert),
     Order::OnBox(BoxOrder::Write),
@@ -86,12 +82,10 @@ const ORDERS: [Order; 12] = [
     Order::OnBox(BoxOrder::Plain),
 ];
 
-const WORDS: [u8; 50] = *b"rs232\
+const WORDS: [u8; 42] = *b"rs232\
     kjw\
     tcp\
     udp\
-    busy\
-    free\
     show\
     advert\
     write\
@@ -100,15 +94,13 @@ const WORDS: [u8; 50] = *b"rs232\
     plain";
 
 // Where each word ends, behind a 0 where the first begins.
-const WORD_ENDS: [usize; 13] = [0, 5, 8, 11, 14, 18, 22, 26, 32, 37, 40, 45, 50];
+const WORD_ENDS: [usize; 11] = [0, 5, 8, 11, 14, 18, 24, 29, 32, 37, 42];
 
-const KINDS: [u32; 35] = [
+const KINDS: [u32; 33] = [
     ANY, // rs232: LINK
     AREA, HEX, ANY, // kjw: LINK
     AREA, HEX, ANY, // tcp: LINK
     AREA, HEX, HEX, // udp
-    ANY, // busy: LINK
-    ANY, // free: LINK
     ANY, // show: LINK
     HEX, // advert
     AREA, // write
@@ -133,7 +125,7 @@ const KINDS: [u32; 35] = [
 ];
 
 // The same for the kinds.
-const KIND_ENDS: [usize; 13] = [0, 3, 6, 9, 10, 11, 12, 13, 14, 30, 31, 34, 35];
+const KIND_ENDS: [usize; 11] = [0, 3, 6, 9, 10, 11, 12, 28, 29, 32, 33];
 
 // Whether a line is the order of that word, with a word of each kind behind it.
 fn is_asked(line: &[u8], word: &[u8], kinds: &[u32]) -> bool
@@ -176,7 +168,7 @@ fn order_in(line: &[u8]) -> Order
     let kind_ends = KIND_ENDS;
     let orders = ORDERS;
     let mut i = 0;
-    while i < 12 {
+    while i < 10 {
         let a = word_ends[i];
         let b = word_ends[i + 1];
         let c = kind_ends[i];

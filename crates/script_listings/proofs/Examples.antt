@@ -4,15 +4,17 @@ use mathlib.Core.List.{List, [], ◌∷◌, ◌++◌}
 use Prim.Native.Nat.{ℕ}
 use lib.ListN.{replicate}
 use Rattle.laws.specs.Bytes.{ascii}
+use Rattle.laws.specs.Numbers.{number}
 use Rattle.decimals.specs.Decimals.{in_digits}
 use Rattle.decimals.specs.Plain.{width_from, width, plain as decimal}
+use Rattle.receiver.specs.Stream.{agrees, size_of, whole}
 use Rattle.reader.specs.Plain.{listing, between, inside, no_entries, plain}
 use Rattle.script_text.specs.Texts.{number_text}
 use Rattle.script_listings.specs.Listings.{entry_text, entries_text, end_text, plain_text}
 
 -- what is written of a buffer, each definition opened
 opened : List ℕ → List ℕ
-unfolding plain_text entries_text entry_text end_text number_text decimal width width_from in_digits plain between inside no_entries
+unfolding plain_text entries_text entry_text end_text number_text decimal width width_from in_digits plain between inside no_entries agrees whole size_of number
 opened bytes = plain_text (plain bytes)
 
 no_bytes : opened [] ≡ ascii "plain end 0"

@@ -1,14 +1,13 @@
 -- What a way in promises is what a line writes: the step's box, answer, reply and area.
 use Prim.Native.Nat.{ℕ}
-use mathlib.Core.Bool.{Bool}
 use mathlib.Core.Path.{◌≡◌, ap, ◌∙◌}
 use mathlib.Core.List.{List}
 use Rattle.terms.specs.declared.Answer.{Answer}
 use Rattle.panels.specs.declared.DisplayBox.{DisplayBox}
-use Rattle.steps.specs.Messages.{Message, udp, notice}
+use Rattle.steps.specs.Messages.{Message, udp}
 use Rattle.steps.specs.Step.{step}
 use Rattle.ways_in.specs.Promise.{Steps, message_of, outcome_of, came_by}
-use Rattle.ways_in.specs.declared.Way.TheVariants.{By, Udp, Notice}
+use Rattle.ways_in.specs.declared.Way.TheVariants.{By, Udp}
 use Rattle.ways_in.specs.declared.Outcome.{Outcome}
 use Rattle.script_answers.specs.Answers.{writes, answerText, replied}
 use Rattle.script_messages.specs.Messages.{stepped, spread}
@@ -37,11 +36,6 @@ linked_steps b line l m area t area' s = record {
 pub spread_text : (b : DisplayBox) (l : ℕ) (m area : List ℕ) (t : Outcome) → t ≡ outcome_of (came_by Udp b l m area) → writes t.after (answerText t.answer) ≡ spread (step b (udp m))
 unfolding spread
 spread_text b l m area t s = ap (λ (x : Outcome). writes x.after (answerText x.answer)) s
-
--- so it is with what the host tells
-pub told_text : (b : DisplayBox) (busy : Bool) (l : ℕ) (m area : List ℕ) (t : Outcome) → t ≡ outcome_of (came_by (Notice busy) b l m area) → writes t.after (answerText t.answer) ≡ spread (step b (notice busy l))
-unfolding spread
-told_text b busy l m area t s = ap (λ (x : Outcome). writes x.after (answerText x.answer)) s
 
 -- equal parts make equal messages
 pub carried_same : (b : DisplayBox) (by : Line) {l l' : ℕ} {m m' a a' : List ℕ} → l ≡ l' → m ≡ m' → a ≡ a' → stepped (step b (message_of by l m a)) ≡ stepped (step b (message_of by l' m' a'))

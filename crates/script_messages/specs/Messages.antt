@@ -15,6 +15,6 @@ stepped o = writes o.box (replied o.answer o.back.len o.back.area)
 unfoldable pub messaged : Line → DisplayBox → List ℕ → Effect
 messaged by b line = stepped (step b (message_of by (number_at most_n 1 line) (bytes_at 3 line) (filler (number_at most_area 2 line))))
 
--- "by SDCP on UDP", and what the host tells of a panel: nothing goes back
+-- "by SDCP on UDP"
 unfoldable pub spread : steps.Outcome → Effect
 spread o = writes o.box (answerText o.answer)

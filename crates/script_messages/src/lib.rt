@@ -1,10 +1,8 @@
 // The orders that are messages to the box (docs/SCRIPTS.md).
-ghost use Rattle.std.specs.Prelude.{◌≡◌};
 ghost use Rattle.steps.specs.Messages as messages;
 ghost use Rattle.steps.specs.Step.{step};
 ghost use Rattle.ways_in.specs.Promise.{message_of};
-ghost use Rattle.script_words.specs.Words.{number_at, bytes_at};
-ghost use Rattle.script_words.specs.Kinds.{most_n};
+ghost use Rattle.script_words.specs.Words.{bytes_at};
 ghost use Rattle.script_answers.specs.Answers.{Answers};
 ghost use Rattle.script_messages.specs.Messages.{stepped, messaged, spread};
 
@@ -24,8 +22,7 @@ pub fn carry(
     area: &mut [u8],
     out: &mut [u8],
 ) -> Answered
-    ensures { Answers (stepped (step b (message_of line link m.now area.old))) result out.old out.new
-        × (area.new ≡ (step b (message_of line link m.now area.old)).back.area) }
+    ensures { Answers (stepped (step b (message_of line link m.now area.old))) result out.old out.new }
 {
     let t = take(b, Way::By(line), link, m, area);
     let len = t.len;
@@ -52,18 +49,6 @@ pub fn answer_udp(b: DisplayBox, line: &[u8], out: &mut [u8]) -> Answered
     let n = bytes_at(line, 1, &mut bytes);
     let mut unused = [0u8; 1];
     let t = take(b, Way::Udp, 0, &bytes[..n], &mut unused);
-    let after = t.after;
-    let answer = t.answer;
-    say_answer(after, out, answer)
-}
-
-// What the host tells of the panel on a link: that it becomes busy (true) or free. No bytes come with it.
-pub fn answer_notice(busy: bool, b: DisplayBox, line: &[u8], out: &mut [u8]) -> Answered
-    ensures { Answers (spread (step b (messages.notice busy (number_at most_n 1 line.now)))) result out.old out.new }
-{
-    let link = number_at(line, 1, ANY) as usize;
-    let mut unused = [0u8; 1];
-    let t = take(b, Way::Notice(busy), link, b"", &mut unused);
     let after = t.after;
     let answer = t.answer;
     say_answer(after, out, answer)

@@ -3,7 +3,7 @@ use Rattle.std.specs.Prelude.{ℕ, List, []}
 use Rattle.laws.specs.Bytes.{ascii}
 use Rattle.configure.specs.Configure.{configured}
 use Rattle.panels.specs.declared.DisplayBox.{DisplayBox}
-use Rattle.steps.specs.Messages.{udp, busy, free}
+use Rattle.steps.specs.Messages.{udp}
 use Rattle.steps.specs.Step.{step}
 use Rattle.sdap.specs.Rules.{read_of}
 use Rattle.reader.specs.Plain.{plain}
@@ -11,7 +11,7 @@ use Rattle.script_words.specs.Words.{number_at, bytes_at}
 use Rattle.script_words.specs.Kinds.{most_n, most_area}
 use Rattle.script_boxes.specs.Boxes.{configuration_of}
 use Rattle.script_lines.specs.declared.BoxOrder.{BoxOrder}
-use Rattle.script_lines.specs.declared.BoxOrder.TheVariants.{Passed, Unread, Box, Rs232, Kjw, Tcp, Udp, Busy, Free, Show, Advert, Write, Sum, Plain}
+use Rattle.script_lines.specs.declared.BoxOrder.TheVariants.{Passed, Unread, Box, Rs232, Kjw, Tcp, Udp, Show, Advert, Write, Sum, Plain}
 use Rattle.script_write.specs.Wanted.{wanted}
 use Rattle.script_answers.specs.Answers.{Effect, writes, filler}
 use Rattle.script_bytes.specs.Bytes.{read_text, wrote, summed}
@@ -29,8 +29,6 @@ ordered Rs232 b line = messaged lines.Rs232c b line
 ordered Kjw b line = messaged lines.Kjw b line
 ordered Tcp b line = messaged lines.Tcp b line
 ordered Udp b line = spread (step b (udp (bytes_at 1 line)))
-ordered Busy b line = spread (step b (busy (number_at most_n 1 line)))
-ordered Free b line = spread (step b (free (number_at most_n 1 line)))
 ordered Show b line = writes b (shown_at b (number_at most_n 1 line))
 ordered Advert b line = writes b (read_text (read_of (bytes_at 1 line)))
 ordered Write b line = writes b (wrote (wanted line) (filler (number_at most_area 1 line)))

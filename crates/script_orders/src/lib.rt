@@ -8,7 +8,7 @@ use script_answers::{Answered, say};
 use script_bytes::{answer_advert, answer_sum, answer_write};
 use script_lines::BoxOrder;
 use script_listings::answer_plain;
-use script_messages::{answer_message, answer_notice, answer_udp};
+use script_messages::{answer_message, answer_udp};
 use script_panels::{answer_box, answer_show};
 
 // The order of a line: what it does to the box, and its text at the front of an area.
@@ -23,8 +23,6 @@ pub fn answer_order(order: BoxOrder, b: DisplayBox, line: &[u8], out: &mut [u8])
         BoxOrder::Kjw => answer_message(Line::Kjw, b, line, out),
         BoxOrder::Tcp => answer_message(Line::Tcp, b, line, out),
         BoxOrder::Udp => answer_udp(b, line, out),
-        BoxOrder::Busy => answer_notice(true, b, line, out),
-        BoxOrder::Free => answer_notice(false, b, line, out),
         BoxOrder::Show => answer_show(b, line, out),
         BoxOrder::Advert => answer_advert(b, line, out),
         BoxOrder::Write => answer_write(b, line, out),

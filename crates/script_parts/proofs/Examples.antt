@@ -18,7 +18,7 @@ k_sync : scene_text 1 ≡ ascii " SCEN auto24pSync"
 unfolding scene_text
 k_sync = refl
 
--- connectors that are off are left out
+-- connectors that are off are left out, and a bias below 0 has its sign
 some_on : inputs_text (record { used = 4; preset = 2; on = 0 ∷ 1 ∷ 0 ∷ 0 ∷ 0 ∷ 0 ∷ 0 ∷ 0 ∷ 1 ∷ 0 ∷ [] }) ≡ ascii " INPUT 4 ON 2 10 PRESET 2"
 unfolding inputs_text on_text number_text plain width width_from in_digits
 some_on = refl

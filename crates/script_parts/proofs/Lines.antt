@@ -1,4 +1,4 @@
--- The connectors from a place on: the one at that place, and those behind it.
+-- The connectors from a place on: the one at that place, and those behind it. A bias is what its bits say.
 use mathlib.Core.Path.{◌≡◌}
 use mathlib.Core.Bool.{cond}
 use mathlib.Core.List.{List, [], ◌++◌}

@@ -1,4 +1,4 @@
--- docs/SCRIPTS.md, `show`: the connectors and the preset white balance of a W panel, and the line of a K panel.
+-- docs/SCRIPTS.md, `show`: the connectors and the white balance of a W panel, and the line of a K panel.
 use Rattle.std.specs.Prelude.{ℕ, cond, List, [], ◌∷◌, ◌++◌, eqb}
 use Rattle.laws.specs.Bytes.{ascii}
 use Rattle.panels.specs.Records.{connectors}

@@ -2,8 +2,8 @@
 -- entry of a list 22, a reply 48.
 use Prim.Native.Nat.{ℕ, zero, suc, ◌+◌, ◌*◌, ◌-◌, ◌^◌, ◌≤◌}
 use mathlib.Core.Path.{◌≡◌, refl, ap}
-use mathlib.Core.Bool.{Bool, true, false, cond}
-use mathlib.Core.List.{List, [], ◌∷◌, ◌++◌}
+use mathlib.Core.Bool.{Bool, cond}
+use mathlib.Core.List.{List, [], ◌∷◌}
 use native.Mathlib.Omega.{arith}
 use lib.Dec.{eqb, leb, ltb}
 use lib.IntN.{ℤ, pos, negsuc}
@@ -19,11 +19,7 @@ use Rattle.terms.specs.declared.Answer.{Answer}
 use Rattle.sums.specs.Sums.{sums_to_zero}
 use Rattle.decimals.specs.Decimals.{in_digits, numeral}
 use Rattle.decimals.specs.Plain.{width_from, width, plain}
-use Rattle.turns.specs.Turns.{Turn, taken, turn_with}
-use Rattle.panels.specs.Waits.{is_busy}
-use Rattle.settling.specs.Settling.{settled, dropped}
-use Rattle.settling.specs.declared.Standing.{Standing}
-use Rattle.sdcp.specs.Busy as packetsAt
+use Rattle.turns.specs.Turns.{Turn, taken}
 use Rattle.turns.proofs.Turns.{either as either-turn}
 use Rattle.panels.specs.Records.{family_w, connectors}
 use Rattle.configure.specs.Configure.{configured}
@@ -31,7 +27,6 @@ use Rattle.panels.specs.declared.Inputs.{Inputs}
 use Rattle.panels.specs.declared.Balance.{Balance}
 use Rattle.panels.specs.declared.WRecord.{WRecord}
 use Rattle.panels.specs.declared.KRecord.{KRecord}
-use Rattle.panels.specs.declared.WaitingLine.{WaitingLine}
 use Rattle.panels.specs.declared.Panel.{Panel}
 use Rattle.panels.specs.declared.DisplayBox.{DisplayBox}
 use Rattle.setting_texts.specs.Names.{lead_of, word_of}
@@ -57,8 +52,8 @@ use Rattle.rs232c_asks.specs.Asks as serialAsks
 use Rattle.rs232c_asks.specs.declared.Heard.{Heard as SerialHeard}
 use Rattle.rs232c_asks.specs.declared.Heard.TheVariants as serialIs
 use Rattle.sdcp.specs.declared.Reply.TheVariants.{Silent as None, Ng, Ok}
-use Rattle.steps.specs.Messages.{Message, rs232c, kjw, tcp, udp, notice, busy, free, names}
-use Rattle.steps.specs.Step.{standing_of, turn, back, passed, refused, door, panel_at, step}
+use Rattle.steps.specs.Messages.{Message, rs232c, kjw, tcp, udp, names}
+use Rattle.steps.specs.Step.{turn, back, passed, refused, door, panel_at, step}
 use Rattle.steps.specs.Step as steps
 use Rattle.sdap.specs.Layout.{fields_of, no_fields}
 use Rattle.sdap.specs.Rules.{read_of, read_answer, write_answer, area_after}
@@ -71,9 +66,9 @@ use Rattle.script_words.specs.Words.{number_at, bytes_at}
 use Rattle.script_words.specs.Kinds.{most_n, most_area}
 use Rattle.script_boxes.specs.Boxes.{configuration_of}
 use Rattle.script_lines.specs.declared.BoxOrder.{BoxOrder}
-use Rattle.script_lines.specs.declared.BoxOrder.TheVariants.{Passed, Unread, Box, Rs232, Kjw, Tcp, Udp, Busy, Free, Show, Advert, Write, Sum, Plain}
+use Rattle.script_lines.specs.declared.BoxOrder.TheVariants.{Passed, Unread, Box, Rs232, Kjw, Tcp, Udp, Show, Advert, Write, Sum, Plain}
 use Rattle.script_text.specs.Texts.{pairs, hex_text, number_text, bytes_text, signed_text, spoiled_by, at_text, placed_text, reply_text}
-use Rattle.script_show.specs.Shown.{shown_names, settings_text, w_text, busy_text, panel_text}
+use Rattle.script_show.specs.Shown.{shown_names, settings_text, w_text, panel_text}
 use Rattle.script_parts.specs.Parts.{on_text, inputs_text, scene_text, input_text, mutes_text, k_text}
 use Rattle.script_balance.specs.Balance.{gains_text, bias_text, biases_text, balance_text}
 use Rattle.script_fields.specs.Fields.{head_text, addresses_text, tail_text, advert_text}
@@ -234,7 +229,7 @@ balance_fits b =
     let l = length-append (gains_text b.gains) (biases_text b.biases) in
     omega (arith, g, z, l)
 
-w_fits : (group unit : ℕ) (w : WRecord) → length (w_text group unit w) ≤ 900
+w_fits : (group unit : ℕ) (w : WRecord) → length (w_text group unit w) ≤ 1000
 unfolding w_text
 w_fits group unit w =
     let a = said_fits (ascii "W ") group in
@@ -243,17 +238,6 @@ w_fits group unit w =
     let d = inputs_fit w.inputs in
     let e = balance_fits w.balance in
     simp length-append (omega (arith, a, b, c, d, e))
-
-busy_fits : (l : WaitingLine) → length (busy_text l) ≤ 16
-unfolding busy_text
-busy_fits l = either (is_busy l) (number_text (ascii " BUSY ") l.count) [] 16 (said_fits (ascii " BUSY ") l.count) (omega arith)
-
-whole_fits : (p : Panel) → length (w_text p.group.0 p.unit.0 p.w ++ busy_text p.line) ≤ 1000
-whole_fits p =
-    let a = w_fits p.group.0 p.unit.0 p.w in
-    let b = busy_fits p.line in
-    let l = length-append (w_text p.group.0 p.unit.0 p.w) (busy_text p.line) in
-    omega (arith, a, b, l)
 
 scene_fits : (v : ℕ) → length (scene_text v) ≤ 20
 unfolding scene_text
@@ -275,7 +259,7 @@ k_fits k =
 
 panel_fits : (p : Panel) → length (panel_text p) ≤ 1000
 unfolding panel_text
-panel_fits p = either (eqb p.family family_w) (w_text p.group.0 p.unit.0 p.w ++ busy_text p.line) (k_text p.k) 1000 (whole_fits p) (k_fits p.k)
+panel_fits p = either (eqb p.family family_w) (w_text p.group.0 p.unit.0 p.w) (k_text p.k) 1000 (w_fits p.group.0 p.unit.0 p.w) (k_fits p.k)
 
 shown_fits : (b : DisplayBox) (link : ℕ) → length (shown_at b link) ≤ 1000
 unfolding shown_at
@@ -429,43 +413,18 @@ packet_turn_fits m (packetIs.Understood o) w = packet_fits m (Ok (says_of o w))
 behind : {R : Type 0} (n : ℕ) (f : R → Turn R) (x : R) → length (f x).reply ≤ 48 → length (taken n f x).reply ≤ 48
 behind {R} n f x = either-turn (λ (t : Turn R). length t.reply ≤ 48) n f x (omega arith)
 
--- document 02, §9: busy or not
-serial_busy_fits : (h : SerialHeard) (w : WRecord) → length (serial.while_busy h w).reply ≤ 48
-unfolding serial.while_busy
-serial_busy_fits (serialIs.Refused a) w = omega arith
-serial_busy_fits (serialIs.Broken s p) w = serial_fits (Nak s)
-serial_busy_fits (serialIs.NotUnderstood s) w = serial_fits (Nak s)
-serial_busy_fits (serialIs.Understood s o) w = serial_fits (Nak s)
-
-serial_at_fits : (busy : Bool) (m : List ℕ) (w : WRecord) → length (serial.turn_at busy m w).reply ≤ 48
-serial_at_fits true m w = serial_busy_fits (serialAsks.heard_of m) w
-serial_at_fits false m w = serial_turn_fits (serialAsks.heard_of m) (serialAsks.values_of m) w
-
-packet_busy_fits : (m : List ℕ) (h : PacketHeard) (s : Standing) → length (packetsAt.while_busy m h s).reply ≤ 48
-unfolding packetsAt.while_busy
-packet_busy_fits m (packetIs.Refused a) s = omega arith
-packet_busy_fits m (packetIs.Broken p) s = packet_fits m Ng
-packet_busy_fits m packetIs.NotUnderstood s = packet_fits m (Ok Bare)
-packet_busy_fits m (packetIs.Understood o) s = choose (λ (t : Turn Standing). length t.reply ≤ 48) (dropped o s.line) _ _ (λ e. packet_fits m Ng) (λ e. packet_fits m (Ok (says_of o (settled s.w s.line))))
-
-packet_at_fits : (m : List ℕ) (h : PacketHeard) (s : Standing) → length (packetsAt.turned_at m h s).reply ≤ 48
-unfolding packetsAt.turned_at
-packet_at_fits m h s = choose (λ (t : Turn Standing). length t.reply ≤ 48) (is_busy s.line) (packetsAt.while_busy m h s) (turn_with (packetsAt.with_record s) (packets.turned m h s.w)) (λ e. packet_busy_fits m h s) (λ e. packet_turn_fits m h s.w)
-
 turn_fits : (m : Message) (p : Panel) → length (turn m p).reply ≤ 48
 unfolding turn
-turn_fits (rs232c l m area) p = behind (length area) (serial.turn_at (is_busy p.line) m) p.w (serial_at_fits (is_busy p.line) m p.w)
+turn_fits (rs232c l m area) p = behind (length area) (serial.turn_of m) p.w (serial_turn_fits (serialAsks.heard_of m) (serialAsks.values_of m) p.w)
 turn_fits (kjw l m area) p = behind (length area) (frames.turn_of m) p.k (frame_fits m p.k)
-turn_fits (tcp l m area) p = behind (length area) (packetsAt.turn_at m) (standing_of p) (packet_at_fits m (heard_of m) (standing_of p))
-turn_fits (udp m) p = packet_at_fits m (cast_of m) (standing_of p)
-turn_fits (notice t l) p = omega arith
+turn_fits (tcp l m area) p = behind (length area) (packets.turn_of m) p.w (packet_turn_fits m (heard_of m) p.w)
+turn_fits (udp m) p = packet_turn_fits m (cast_of m) p.w
 
 back_fits : (m : Message) (reply : List ℕ) → length reply ≤ 48 → (back m reply).len ≤ 48
 back_fits (rs232c l m area) reply h = h
 back_fits (kjw l m area) reply h = h
 back_fits (tcp l m area) reply h = h
 back_fits (udp m) reply h = omega arith
-back_fits (notice t l) reply h = omega arith
 
 -- no message is replied to with more than 48 bytes
 pub step_replies : (b : DisplayBox) (m : Message) → (step b m).back.len ≤ 48
@@ -489,16 +448,9 @@ message_fits by b line =
     let r = replied_fits o.answer o.back.len o.back.area (omega (arith, n)) in
     writes_fit o.box (replied o.answer o.back.len o.back.area) (omega (arith, r))
 
--- a message that nothing goes back for: its answer alone
-spread_fits : (o : steps.Outcome) → length (spread o).text ≤ room
-unfolding spread
-spread_fits o =
-    let s = placed_fits (number_of o.answer) (answerPlace o.answer) in
-    writes_fit o.box (answerText o.answer) (omega (arith, s))
-
 -- of the orders on the box alone
 pub order_fits : (o : BoxOrder) (b : DisplayBox) (line : List ℕ) → length (ordered o b line).text ≤ room
-unfolding ordered boxed summed
+unfolding ordered boxed spread summed
 order_fits Passed b line = omega arith
 order_fits Unread b line = writes_fit b (ascii "unread") (omega arith)
 order_fits Box b line =
@@ -508,9 +460,10 @@ order_fits Box b line =
 order_fits Rs232 b line = message_fits lines.Rs232c b line
 order_fits Kjw b line = message_fits lines.Kjw b line
 order_fits Tcp b line = message_fits lines.Tcp b line
-order_fits Udp b line = spread_fits (step b (udp (bytes_at 1 line)))
-order_fits Busy b line = spread_fits (step b (busy (number_at most_n 1 line)))
-order_fits Free b line = spread_fits (step b (free (number_at most_n 1 line)))
+order_fits Udp b line =
+    let o = step b (udp (bytes_at 1 line)) in
+    let s = placed_fits (number_of o.answer) (answerPlace o.answer) in
+    writes_fit o.box (answerText o.answer) (omega (arith, s))
 order_fits Show b line = let s = shown_fits b (number_at most_n 1 line) in writes_fit b (shown_at b (number_at most_n 1 line)) (omega (arith, s))
 order_fits Advert b line = writes_fit b (read_text (read_of (bytes_at 1 line))) (read_fits (read_of (bytes_at 1 line)) (read_short (bytes_at 1 line)))
 order_fits Write b line =

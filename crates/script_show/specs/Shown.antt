@@ -2,9 +2,7 @@
 use Rattle.std.specs.Prelude.{ℕ, cond, List, [], ◌∷◌, ◌++◌, eqb}
 use Rattle.laws.specs.Bytes.{ascii}
 use Rattle.panels.specs.Records.{family_w}
-use Rattle.panels.specs.Waits.{is_busy}
 use Rattle.panels.specs.declared.WRecord.{WRecord}
-use Rattle.panels.specs.declared.WaitingLine.{WaitingLine}
 use Rattle.panels.specs.declared.Panel.{Panel}
 use Rattle.vmc.specs.Orders.{says_of}
 use Rattle.vmc_tells.specs.Texts.{text_of}
@@ -31,9 +29,5 @@ w_text group unit w =
     number_text (ascii "W ") group ++ number_text (ascii " ") unit ++ settings_text w shown_names
     ++ inputs_text w.inputs ++ balance_text w.balance
 
--- "Of a busy panel [..] the line ends with ` BUSY N`, N the number of commands that wait"
-unfoldable pub busy_text : WaitingLine → List ℕ
-busy_text l = cond (is_busy l) (number_text (ascii " BUSY ") l.count) []
-
 unfoldable pub panel_text : Panel → List ℕ
-panel_text p = cond (eqb p.family family_w) (w_text p.group.0 p.unit.0 p.w ++ busy_text p.line) (k_text p.k)
+panel_text p = cond (eqb p.family family_w) (w_text p.group.0 p.unit.0 p.w) (k_text p.k)

@@ -3,13 +3,13 @@ ghost use Rattle.std.specs.Prelude.{◌∷◌};
 ghost use Rattle.vmc.specs.Orders.{says_of};
 ghost use Rattle.vmc_tells.specs.Texts.{text_of};
 ghost use Rattle.script_text.specs.Puts.{Puts};
-ghost use Rattle.script_show.specs.Shown.{shown_names, settings_text, w_text, busy_text, panel_text};
+ghost use Rattle.script_show.specs.Shown.{shown_names, settings_text, w_text, panel_text};
 
-use panels::{Panel, WRecord, WaitingLine};
+use panels::{Panel, WRecord};
 use script_balance::put_balance;
 use script_forms::put_numbers;
 use script_parts::{put_inputs, put_k};
-use script_text::{put, put_number_text};
+use script_text::put;
 use vmc::tell;
 use vmc_asks::Order;
 use vmc_tells::spell;
@@ -75,25 +75,13 @@ fn put_w(out: &mut [u8], at: usize, group: u8, unit: u8, w: WRecord) -> usize
     put_balance(out, c, balance)
 }
 
-// How many commands wait, where the panel is busy.
-fn put_busy(out: &mut [u8], at: usize, l: WaitingLine) -> usize
-    ensures { Puts (busy_text l) out.old at out.new result }
-{
-    if l.busy != 1 {
-        return at;
-    }
-    put_number_text(out, at, b" BUSY ", l.count as u32)
-}
-
 // The line of a panel's record.
 pub fn put_panel(out: &mut [u8], at: usize, p: Panel) -> usize
     ensures { Puts (panel_text p) out.old at out.new result }
 {
     if p.family == b'W' {
         let w = p.w;
-        let line = p.line;
-        let to = put_w(out, at, p.group.0, p.unit.0, w);
-        return put_busy(out, to, line);
+        return put_w(out, at, p.group.0, p.unit.0, w);
     }
     let k = p.k;
     put_k(out, at, k)

@@ -1,20 +1,18 @@
 -- Adverts round-trip both ways: each field is laid at the place from which it is read, and numbers round-trip at every width.
-use Prim.Native.Nat.{ℕ, zero, suc, ◌+◌, ◌^◌, ◌<◌, ◌≤◌}
-use mathlib.Core.Path.{◌≡◌, refl, sym, ap, subst, ◌∙◌}
+use Prim.Native.Nat.{ℕ, ◌+◌, ◌^◌, ◌<◌, ◌≤◌}
+use mathlib.Core.Path.{◌≡◌, refl, sym, ap, ◌∙◌}
 use mathlib.Core.Bool.{true}
 use mathlib.Core.List.{List, [], ◌∷◌, ◌++◌, append_assoc}
 use native.Mathlib.Omega.{arith}
-use lib.Dec.{ltb, lit<, lit≤}
+use lib.Dec.{lit≤}
 use lib.ListN.{length, get_or, take, drop, length-append}
 use lib.Seq.{take_at, drop_at, drop-drop, take_all, get_or-drop}
 use borrow.Author.Tests.{eq-eqb, le-ltb}
-use Rattle.laws.specs.Lists.{every}
 use Rattle.laws.specs.Bytes.{Bytes, ascii, part, same, sent}
 use Rattle.laws.specs.Numbers.{number, in_bytes}
-use Rattle.laws.proofs.Bytes.{bytes_are}
 use Rattle.laws.proofs.Conditions.{and_first, and_second}
 use Rattle.laws.proofs.Lists.{part_from, part_length, part_bytes, part_join, same_is}
-use Rattle.laws.proofs.Numbers.{length_in_bytes, number_in_bytes, number_fits, in_bytes_number}
+use Rattle.laws.proofs.Numbers.{length_in_bytes, number_in_bytes, in_bytes_number}
 use Rattle.terms.specs.Answers.{number_of}
 use Rattle.terms.specs.declared.Answer.{Answer}
 use Rattle.sdap.specs.declared.Advert.{Advert}
@@ -183,40 +181,3 @@ read_writes_back l area area' r b z room w =
     let fields : (read_of l).fields ≡ fields_of l = rw (eq-eqb (number_of (read_answer l)) 0 z) in
     let answer : write_answer (length area) (fields_of l) ≡ read_answer l = rw (le-ltb _ _ room, sizes_back l b ok) ok.fair in
     (w.answer ∙ rw (fields, answer), w.area_after_holds ∙ rw (fields, answer, eq-eqb (number_of (read_answer l)) 0 z, bytes_back l b ok))
-
--- ---- what is asked of the fields is not asked of too few: whatever is read of bytes fits the fields' types
-
-number_under : (n k : ℕ) (l : List ℕ) → Bytes l → n + k ≤ length l → number (part n k l) < 256 ^ k
-number_under n k l b h = subst (λ (j : ℕ). number (part n k l) < 256 ^ j) (part_length n k l h) (number_fits (part n k l) (part_bytes n k l b))
-
-pub read_fits : (l : List ℕ) → every (λ (x : ℕ). ltb x 256) l ≡ true → length l ≡ 122 → Fitting (fields_of l)
-unfolding fields_of
-read_fits l e h = record {
-  serial_fits = under 20 4 (omega (arith, h));
-  power_fits = under 24 2 (omega (arith, h));
-  connected_fits = under 50 4 (omega (arith, h));
-  accepted_four = refl;
-  accepted_fit = accepted;
-  error_fits = under 70 2 (omega (arith, h));
-}
-  where
-    under : (n k : ℕ) → n + k ≤ length l → number (part n k l) < 256 ^ k
-    under n k i = number_under n k l (bytes_are l e) i
-
-    accepted : (i : ℕ) → get_or (number (part 54 4 l) ∷ number (part 58 4 l) ∷ number (part 62 4 l) ∷ number (part 66 4 l) ∷ []) i 0 < 2 ^ 32
-    accepted zero = under 54 4 (omega (arith, h))
-    accepted (suc zero) = under 58 4 (omega (arith, h))
-    accepted (suc (suc zero)) = under 62 4 (omega (arith, h))
-    accepted (suc (suc (suc zero))) = under 66 4 (omega (arith, h))
-    accepted (suc (suc (suc (suc i)))) = lit< tt
-
--- so the two ways together: what the reader accepts, written into any area that has room, reads back as the same fields
-pub read_back_again : (l area area' : List ℕ) (r : Answer) → every (λ (x : ℕ). ltb x 256) l ≡ true → number_of (read_answer l) ≡ 0 → 122 ≤ length area
-    → Written (read_of l).fields area r area'
-    → (area' ≡ sent l area) × (read_of (take 122 area') ≡ record { answer = r; fields = (read_of l).fields })
-unfolding read_of
-read_back_again l area area' r e z room w =
-    let back = read_writes_back l area area' r (bytes_are l e) z room w in
-    let fields : (read_of l).fields ≡ fields_of l = rw (eq-eqb (number_of (read_answer l)) 0 z) in
-    let fits = subst Fitting (sym fields) (read_fits l e (readable l z).long) in
-    (back.1, written_reads_back (read_of l).fields area area' r fits w (ap number_of back.0 ∙ z))

@@ -2,13 +2,16 @@
 -- they are STATget's.
 use Prim.Native.Nat.{ℕ}
 use mathlib.Core.Path.{◌≡◌, refl, sym, ap, subst, ◌∙◌}
-use mathlib.Core.Bool.{Bool, false}
+use mathlib.Core.Bool.{Bool, true, false}
 use mathlib.Core.List.{List}
 use native.Mathlib.Omega.{arith}
+use Rattle.panels.specs.Valid.{ok_w}
+use Rattle.panels.specs.declared.WRecord.{WRecord}
+use Rattle.vmc.specs.Orders.{carried}
 use Rattle.vmc.proofs.Questions.{asks_only, question_is}
 use Rattle.vmc_asks.specs.Asks.{read_data, asks_status}
 use Rattle.vmc_asks.specs.declared.Order.{Order}
-use Rattle.vmc_asks.specs.declared.Order.TheVariants.{Get}
+use Rattle.vmc_asks.specs.declared.Order.TheVariants.{Set, Shift, Reset, Get}
 use Rattle.vmc_asks.specs.declared.Words.{Words}
 use Rattle.vmc_asks.specs.declared.Words.TheVariants.{Understood as UnderstoodWords, NotUnderstood as NotUnderstoodWords}
 use Rattle.sdcp_asks.specs.Asks.{in_words, data_of, heard_of, unless_status, cast_of}
@@ -16,6 +19,8 @@ use Rattle.sdcp_asks.specs.declared.Heard.{Heard}
 use Rattle.sdcp_asks.specs.declared.Heard.TheVariants.{Refused, Broken, NotUnderstood, Understood}
 use Rattle.sdcp_asks.proofs.Cast.{cast_plain, cast_heard}
 use Rattle.sdcp_asks.proofs.Envelopes.{by_rungs}
+use Rattle.sdcp.specs.Replies.{turned, cast_turn_of}
+use Rattle.sdcp.proofs.Validity.{turned_valid}
 
 -- what was understood was said in words
 abbrev Spoken : Words → Heard → Type 0
@@ -37,7 +42,7 @@ asks_is : (m : List ℕ) (o : Order) → heard_of m ≡ Understood o → asks_st
 asks_is m o e = question_is (data_of m) o (heard_words m o e)
 
 -- what is heard of it by UDP
-pub cast_is : (m : List ℕ) (o : Order) → heard_of m ≡ Understood o → cast_of m ≡ unless_status (asks_only o) (Understood o)
+cast_is : (m : List ℕ) (o : Order) → heard_of m ≡ Understood o → cast_of m ≡ unless_status (asks_only o) (Understood o)
 unfolding cast_of
 cast_is m o e = ap (λ (b : Bool). unless_status b (heard_of m)) (asks_is m o e) ∙ ap (unless_status (asks_only o)) e
 
@@ -51,3 +56,28 @@ cast_asks_nothing m k e =
 -- and every set is what it is by TCP
 pub set_cast : (m : List ℕ) (o : Order) → heard_of m ≡ Understood o → asks_only o ≡ false → cast_of m ≡ Understood o
 set_cast m o e n = cast_plain m (asks_is m o e ∙ n) ∙ e
+
+-- so the record after it is the one after its order: a question changes none
+pub cast_carries : (m : List ℕ) (o : Order) (w : WRecord) → heard_of m ≡ Understood o → (cast_turn_of m w).after ≡ carried o w
+unfolding turned carried
+cast_carries m o w e = ap (λ (h : Heard). (turned m h w).after) (cast_is m o e) ∙ go o
+  where
+    go : (x : Order) → (turned m (unless_status (asks_only x) (Understood x)) w).after ≡ carried x w
+    go (Set k v) = refl
+    go (Shift axis z) = refl
+    go Reset = refl
+    go (Get k) = refl
+
+-- a valid record stays valid by UDP too
+unless_valid : (m : List ℕ) (asked : Bool) (h : Heard) (w : WRecord) → ok_w w ≡ true → ok_w (turned m h w).after ≡ true → ok_w (turned m (unless_status asked h) w).after ≡ true
+unfolding turned
+unless_valid m asked (Refused a) w v k = v
+unless_valid m asked (Broken p) w v k = v
+unless_valid m true NotUnderstood w v k = v
+unless_valid m false NotUnderstood w v k = v
+unless_valid m true (Understood o) w v k = v
+unless_valid m false (Understood o) w v k = k
+
+pub cast_valid : (m : List ℕ) (w : WRecord) → ok_w w ≡ true → ok_w (cast_turn_of m w).after ≡ true
+unfolding cast_of
+cast_valid m w v = unless_valid m (asks_status (data_of m)) (heard_of m) w v (turned_valid m w v)

@@ -4,9 +4,9 @@ use mathlib.Core.List.{List}
 use Prim.Native.Nat.{ℕ}
 use Rattle.turns.specs.Turns.{Takes}
 use Rattle.turns.proofs.Turns.{takes_one}
-use Rattle.sdcp.specs.Busy.{turn_at}
-use Rattle.settling.specs.declared.Standing.{Standing}
+use Rattle.panels.specs.declared.WRecord.{WRecord}
+use Rattle.sdcp.specs.Replies.{turn_of}
 use Rattle.sdcp.specs.declared.Outcome.{Outcome}
 
-pub take_packet_one : (m : List ℕ) (s : Standing) (area : List ℕ) (r r' : Outcome) (z z' : List ℕ) → Takes (turn_at m) s area r.after r.answer r.len z → Takes (turn_at m) s area r'.after r'.answer r'.len z' → (r.after ≡ r'.after) × (r.answer ≡ r'.answer) × (r.len ≡ r'.len) × (z ≡ z')
-take_packet_one m s area r r' z z' = takes_one (turn_at m) s area _ _ _ _ _ _ z z'
+pub take_packet_one : (m : List ℕ) (w : WRecord) (area : List ℕ) (r r' : Outcome) (z z' : List ℕ) → Takes (turn_of m) w area r.after r.answer r.len z → Takes (turn_of m) w area r'.after r'.answer r'.len z' → (r.after ≡ r'.after) × (r.answer ≡ r'.answer) × (r.len ≡ r'.len) × (z ≡ z')
+take_packet_one m w area r r' z z' = takes_one (turn_of m) w area _ _ _ _ _ _ z z'

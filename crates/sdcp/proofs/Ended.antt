@@ -2,7 +2,7 @@
 -- it is broken, and its words.
 use Prim.Native.Nat.{ℕ, ◌<◌, ◌≤◌}
 use mathlib.Core.Path.{◌≡◌, refl, sym, ap, ◌∙◌}
-use mathlib.Core.Bool.{Bool, true, cond}
+use mathlib.Core.Bool.{Bool, true}
 use mathlib.Core.List.{List, [], ◌∷◌}
 use native.Mathlib.Omega.{arith}
 use lib.ListN.{length, get_or, take}
@@ -11,10 +11,7 @@ use borrow.Author.Tests.{le-ltb}
 use Rattle.laws.specs.Bytes.{same, part}
 use Rattle.laws.proofs.Lists.{part_from}
 use Rattle.laws.proofs.Texts.{begins_take}
-use Rattle.turns.specs.Turns.{Turn, turn_with}
-use Rattle.panels.specs.Waits.{is_busy}
 use Rattle.panels.specs.declared.WRecord.{WRecord}
-use Rattle.settling.specs.declared.Standing.{Standing}
 use Rattle.trimming.proofs.Trimmed.{Ended, ends_bare}
 use Rattle.vmc_asks.specs.Asks.{asks_status}
 use Rattle.vmc_asks.proofs.Ended.{read_ended, question_ended}
@@ -22,8 +19,7 @@ use Rattle.terms.specs.declared.Envelope.TheVariants.{Good}
 use Rattle.sdcp_asks.specs.Asks.{front, is_ours, envelope_of, data_of, heard_of, unless_status, cast_of}
 use Rattle.sdcp_asks.specs.declared.Heard.{Heard}
 use Rattle.sdcp_asks.specs.declared.Heard.TheVariants.{Refused, Broken, NotUnderstood, Understood}
-use Rattle.sdcp.specs.Replies.{packet_of, bytes_of, turned}
-use Rattle.sdcp.specs.Busy.{while_busy, with_record, turned_at, turn_at, cast_turn_at}
+use Rattle.sdcp.specs.Replies.{packet_of, bytes_of, turned, turn_of, cast_turn_of}
 use Rattle.sdcp.specs.declared.Reply.{Reply}
 use Rattle.sdcp.specs.declared.Reply.TheVariants.{Silent, Ng, Ok}
 
@@ -75,27 +71,14 @@ module _ (p q : List ℕ) (e : EndedAs p q) where
   heard_so NotUnderstood w = rw (bytes_ended _)
   heard_so (Understood o) w = rw (bytes_ended _)
 
+  -- what a panel does with it: record, answer and reply
+  pub turn_ended : (w : WRecord) → turn_of q w ≡ turn_of p w
+  turn_ended w = heard_so (heard_of q) w ∙ ap (λ (x : Heard). turned p x w) heard_ended
+
   -- and by UDP
   pub cast_ended : cast_of q ≡ cast_of p
   unfolding cast_of
   cast_ended = ap (λ (b : Bool). unless_status b (heard_of q)) (question_ended (data_of p) (data_of q) e.ends_bare_holds e.ended) ∙ ap (unless_status (asks_status (data_of p))) heard_ended
 
-  -- document 02, §9: busy or not
-  busy_so : (x : Heard) (s : Standing) → while_busy q x s ≡ while_busy p x s
-  unfolding while_busy
-  busy_so (Refused a) s = refl
-  busy_so (Broken x) s = rw (bytes_ended Ng)
-  busy_so NotUnderstood s = rw (bytes_ended _)
-  busy_so (Understood o) s = rw (bytes_ended Ng, bytes_ended (Ok _))
-
-  at_so : (x : Heard) (s : Standing) → turned_at q x s ≡ turned_at p x s
-  unfolding turned_at
-  at_so x s =
-      ap (λ (t : Turn Standing). cond (is_busy s.line) t (turn_with (with_record s) (turned q x s.w))) (busy_so x s)
-      ∙ ap (λ (t : Turn WRecord). cond (is_busy s.line) (while_busy p x s) (turn_with (with_record s) t)) (heard_so x s.w)
-
-  pub turn_at_ended : (s : Standing) → turn_at q s ≡ turn_at p s
-  turn_at_ended s = at_so (heard_of q) s ∙ ap (λ (x : Heard). turned_at p x s) heard_ended
-
-  pub cast_at_ended : (s : Standing) → cast_turn_at q s ≡ cast_turn_at p s
-  cast_at_ended s = at_so (cast_of q) s ∙ ap (λ (x : Heard). turned_at p x s) cast_ended
+  pub cast_turn_ended : (w : WRecord) → cast_turn_of q w ≡ cast_turn_of p w
+  cast_turn_ended w = heard_so (cast_of q) w ∙ ap (λ (x : Heard). turned p x w) cast_ended

@@ -1,4 +1,3 @@
-pub mod Busy
 pub mod Cast
 pub mod Determined
 pub mod Ended

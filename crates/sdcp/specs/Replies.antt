@@ -10,7 +10,7 @@ use Rattle.panels.specs.declared.WRecord.{WRecord}
 use Rattle.vmc.specs.Orders.{carried, says_of}
 use Rattle.vmc_tells.specs.Texts.{text_of}
 use Rattle.vmc_tells.specs.declared.Says.TheVariants.{Bare}
-use Rattle.sdcp_asks.specs.Asks.{heard_of}
+use Rattle.sdcp_asks.specs.Asks.{heard_of, cast_of}
 use Rattle.sdcp_asks.specs.declared.Heard.{Heard}
 use Rattle.sdcp_asks.specs.declared.Heard.TheVariants.{Refused, Broken, NotUnderstood, Understood}
 use Rattle.sdcp.specs.declared.Reply.{Reply}
@@ -44,3 +44,7 @@ turned m (Understood o) w = record { after = carried o w; answer = Done; reply =
 
 abbrev pub turn_of : List ℕ → WRecord → Turn WRecord
 turn_of m = turned m (heard_of m)
+
+-- a packet by UDP: document 02, §5, refuses one that asks for a status, and then "no panel changes and no reply is sent"
+abbrev pub cast_turn_of : List ℕ → WRecord → Turn WRecord
+cast_turn_of m = turned m (cast_of m)

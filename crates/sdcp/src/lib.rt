@@ -1,20 +1,14 @@
 // SDCP: one packet to one W panel that it is addressed to (document 01, "SDCP and VMC (001, 002, 004)").
-ghost use Rattle.std.specs.Prelude.{◌≡◌, ◌≤◌, length};
+ghost use Rattle.std.specs.Prelude.{◌≤◌, length};
 ghost use Rattle.laws.specs.Bytes.{Sent};
 ghost use Rattle.turns.specs.Turns.{Takes};
-ghost use Rattle.vmc.specs.Orders.{says_of};
-ghost use Rattle.settling.specs.Settling.{settled};
-ghost use Rattle.sdcp_asks.specs.Asks.{heard_of};
 ghost use Rattle.sdcp.specs.Replies.{packet_of, bytes_of, turn_of};
-ghost use Rattle.sdcp.specs.Busy.{while_busy, turn_at};
 
 use octets::{bytes2, lay};
 use panels::WRecord;
 use sdcp_asks::{Heard, hear};
-use settling::{Standing, obey_order, settle};
 use terms::Answer;
 use vmc::{obey, tell};
-use vmc_asks::Order;
 use vmc_tells::{Says, spell};
 
 // What is sent back by TCP.
@@ -25,20 +19,12 @@ pub enum Reply {
     Ok(Says),
 }
 
-// What a packet did: record and line after it, the answer, and the reply's length.
+// What a packet did: the record after it, the answer, and the reply's length.
 #[derive(Drop)]
 pub struct Outcome {
-    pub after: Standing,
+    pub after: WRecord,
     pub answer: Answer,
     pub len: usize,
-}
-
-// What a packet did to the record of a panel that is not busy.
-#[derive(Drop)]
-struct Acted {
-    after: WRecord,
-    answer: Answer,
-    len: usize,
 }
 
 // A reply's packet at the front of the area: the request's first eight bytes and its item come back.
@@ -66,12 +52,12 @@ fn put_ok(m: &[u8], told: Says, area: &mut [u8]) -> usize
     put_packet(m, 1, &bytes[..n], area)
 }
 
-// A packet by TCP for a W panel that is not busy.
-fn take_free(w: WRecord, m: &[u8], area: &mut [u8]) -> Acted
+// A packet for a W panel, by TCP.
+pub fn take_packet(w: WRecord, m: &[u8], area: &mut [u8]) -> Outcome
     ensures { Takes (turn_of m.now) w area.old result.after result.answer result.len area.new }
 {
     if area.len() < 512 {
-        return Acted {
+        return Outcome {
             after: w,
             answer: Answer::AreaTooSmall,
             len: 0,
@@ -79,14 +65,14 @@ fn take_free(w: WRecord, m: &[u8], area: &mut [u8]) -> Acted
     }
     let ask = hear(m);
     match ask {
-        Heard::Refused(answer) => Acted {
+        Heard::Refused(answer) => Outcome {
             after: w,
             answer,
             len: 0,
         },
         Heard::Broken(part) => {
             let len = put_packet(m, 0, b"\xF0\x50", area);
-            Acted {
+            Outcome {
                 after: w,
                 answer: Answer::PartWrong(part),
                 len,
@@ -94,7 +80,7 @@ fn take_free(w: WRecord, m: &[u8], area: &mut [u8]) -> Acted
         }
         Heard::NotUnderstood => {
             let len = put_ok(m, Says::Bare, area);
-            Acted {
+            Outcome {
                 after: w,
                 answer: Answer::NotUnderstood,
                 len,
@@ -104,104 +90,11 @@ fn take_free(w: WRecord, m: &[u8], area: &mut [u8]) -> Acted
             let next = obey(w, o);
             let told = tell(w, o);
             let len = put_ok(m, told, area);
-            Acted {
+            Outcome {
                 after: next,
                 answer: Answer::Done,
                 len,
             }
         }
-    }
-}
-
-// What a busy panel is told of an order: a question is answered as after the line.
-fn told_of(s: Standing, o: Order) -> Says
-    ensures { result ≡ says_of o (settled s.w s.line) }
-{
-    match o {
-        Order::Set(_, _) => Says::Bare,
-        Order::Shift(_, _) => Says::Bare,
-        Order::Reset => Says::Bare,
-        Order::Get(k) => {
-            let w = s.w;
-            let l = s.line;
-            let later = settle(w, l);
-            tell(later, Order::Get(k))
-        }
-    }
-}
-
-// A packet by TCP for a W panel that is busy: a set waits, or is dropped where the line is full.
-fn take_busy(s: Standing, m: &[u8], area: &mut [u8]) -> Outcome
-    ensures { Takes (while_busy m.now (heard_of m.now)) s area.old result.after result.answer result.len area.new }
-{
-    if area.len() < 512 {
-        return Outcome {
-            after: s,
-            answer: Answer::AreaTooSmall,
-            len: 0,
-        };
-    }
-    let ask = hear(m);
-    match ask {
-        Heard::Refused(answer) => Outcome {
-            after: s,
-            answer,
-            len: 0,
-        },
-        Heard::Broken(part) => {
-            let len = put_packet(m, 0, b"\xF0\x50", area);
-            Outcome {
-                after: s,
-                answer: Answer::PartWrong(part),
-                len,
-            }
-        }
-        Heard::NotUnderstood => {
-            let len = put_ok(m, Says::Bare, area);
-            Outcome {
-                after: s,
-                answer: Answer::NotUnderstood,
-                len,
-            }
-        }
-        Heard::Understood(o) => {
-            let t = obey_order(s, o);
-            if t.dropped {
-                let len = put_packet(m, 0, b"\xF0\x50", area);
-                return Outcome {
-                    after: s,
-                    answer: Answer::LineFull,
-                    len,
-                };
-            }
-            let told = told_of(s, o);
-            let len = put_ok(m, told, area);
-            let after = t.after;
-            Outcome {
-                after,
-                answer: Answer::Done,
-                len,
-            }
-        }
-    }
-}
-
-// A packet for a W panel, by TCP.
-pub fn take_packet(s: Standing, m: &[u8], area: &mut [u8]) -> Outcome
-    ensures { Takes (turn_at m.now) s area.old result.after result.answer result.len area.new }
-{
-    let line = s.line;
-    if line.busy == 1 {
-        return take_busy(s, m, area);
-    }
-    let w = s.w;
-    let t = take_free(w, m, area);
-    let next = t.after;
-    let answer = t.answer;
-    let len = t.len;
-    Outcome {
-        after: Standing { w: next, line },
-        answer,
-        len,
     }
 }

@@ -27,6 +27,9 @@ words NotUnderstoodWords = tt
 refusing : (m : List ℕ) → Refusing (heard_of m)
 refusing m = by_rungs Refusing m refl refl (λ h p w. tt) (λ h. words (read_data (data_of m)))
 
+pub refused_undone : (m : List ℕ) (a : Answer) → heard_of m ≡ Refused a → eqb (number_of a) 0 ≡ false
+refused_undone m a e = subst Refusing e (refusing m)
+
 unless_refusing : (asked : Bool) (h : Heard) → Refusing h → Refusing (unless_status asked h)
 unless_refusing asked (Refused a) r = r
 unless_refusing asked (Broken p) r = tt

@@ -19,7 +19,7 @@ use Rattle.panels.specs.Valid.{ok_panel, distinct, in_use, valid}
 use Rattle.panels.specs.declared.Panel.{Panel}
 use Rattle.panels.specs.declared.DisplayBox.{DisplayBox}
 use Rattle.sdcp_asks.specs.Asks.{front, is_ours, group_of, unit_of}
-use Rattle.steps.specs.Messages.{rs232c, kjw, tcp, udp, notice, Name, nobody, a_w, a_k, name_of, names, is_w}
+use Rattle.steps.specs.Messages.{rs232c, kjw, tcp, udp, Name, nobody, a_w, a_k, name_of, names, is_w}
 use Rattle.steps.specs.Addressing.{has_ids, is_id, is_pair, pair_number, by_tcp, target, is_called, addressed}
 use Rattle.steps.specs.Step.{panel_at}
 use Rattle.steps.proofs.Finding.{only_pair}
@@ -35,11 +35,6 @@ by_serial_link ns l m area i = refl
 pub by_frame_link : (ns : List Name) (l : ℕ) (m area : List ℕ) (i : ℕ) → addressed ns (kjw l m area) i ≡ eqb l (suc i)
 unfolding addressed target
 by_frame_link ns l m area i = refl
-
--- document 02, §9: "both count as addressed to that panel"
-pub by_notice_link : (ns : List Name) (t : Bool) (l i : ℕ) → addressed ns (notice t l) i ≡ eqb l (suc i)
-unfolding addressed target
-by_notice_link ns t l i = refl
 
 -- "TCP: 0/0 is the link's own panel"
 pub by_own_link : (ns : List Name) (l : ℕ) (m area : List ℕ) (i : ℕ) → has_ids m ≡ true → group_of m ≡ 0 → unit_of m ≡ 0 → addressed ns (tcp l m area) i ≡ eqb l (suc i)

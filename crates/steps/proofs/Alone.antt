@@ -6,7 +6,7 @@ use mathlib.Core.List.{List, [], ◌∷◌}
 use Prim.Native.Nat.{ℕ, ◌%◌, ◌<◌}
 use lib.Dec.{eqb}
 use lib.ListN.{length}
-use Rattle.laws.proofs.Conditions.{choose, false_true}
+use Rattle.laws.proofs.Conditions.{choose}
 use Rattle.laws.proofs.Lists.{places_length}
 use Rattle.laws.proofs.Runs.{Alone, isolated}
 use Rattle.terms.specs.declared.Answer.{Answer}
@@ -16,12 +16,12 @@ use Rattle.panels.specs.Valid.{valid}
 use Rattle.panels.specs.declared.Panel.{Panel}
 use Rattle.panels.specs.declared.DisplayBox.{DisplayBox}
 use Rattle.configure.specs.declared.Configured.{Configured}
-use Rattle.steps.specs.Messages.{Message, rs232c, kjw, tcp, udp, notice, Name, names}
+use Rattle.steps.specs.Messages.{Message, Name, names}
 use Rattle.steps.specs.Addressing.{addressed}
 use Rattle.steps.specs.Step.{turn, Back, back, panel_at, own_turn, Outcome, passed, refused, door, step}
-use Rattle.steps.specs.Run.{Got, answer_at, got_by, after, run, next, kept, replies}
-use Rattle.steps.proofs.Door.{opens, opens_done, done_opens, called_opens}
-use Rattle.steps.proofs.Turns.{at_step, unmeant, own_answer, own_back, passed_is, refused_is}
+use Rattle.steps.specs.Run.{Got, got_by, after, run, next, kept, replies}
+use Rattle.steps.proofs.Door.{opens}
+use Rattle.steps.proofs.Turns.{at_step, unmeant, own_answer, own_back}
 use Rattle.steps.proofs.Validity.{places_kept, names_kept}
 
 -- what a panel that is addressed becomes, and what goes back for it: its turn, if the door is passed
@@ -31,32 +31,23 @@ becomes ns m p = cond (opens ns m) (turn m p).after p
 abbrev says : List Name → Message → Panel → Got
 says ns m p = cond (opens ns m) (record { answer = (turn m p).answer; back = back m (turn m p).reply }) (record { answer = door ns m; back = back m [] })
 
--- a message that is refused at the door has the door's answer: by UDP none is, where somebody is called
-pub shut_answer : (b : DisplayBox) (m : Message) (i : ℕ) → addressed (names b) m i ≡ true → opens (names b) m ≡ false → answer_at i b m ≡ door (names b) m
-shut_answer b (rs232c l m area) i a e = ap (λ (o : Outcome). o.answer) (refused_is b (rs232c l m area) e)
-shut_answer b (kjw l m area) i a e = ap (λ (o : Outcome). o.answer) (refused_is b (kjw l m area) e)
-shut_answer b (tcp l m area) i a e = ap (λ (o : Outcome). o.answer) (refused_is b (tcp l m area) e)
-shut_answer b (udp m) i a e = absurd (false_true (sym e ∙ done_opens (names b) (udp m) (called_opens (names b) m i a)))
-shut_answer b (notice t l) i a e = ap (λ (o : Outcome). o.answer) (refused_is b (notice t l) e)
-
-got_step : (b : DisplayBox) (m : Message) (i : ℕ) → addressed (names b) m i ≡ true → got_by i b m ≡ says (names b) m (panel_at i b)
-got_step b m i a = go (opens (names b) m) refl
+got_step : (b : DisplayBox) (m : Message) (i : ℕ) → addressed (names b) m i ≡ true → got_by b m ≡ says (names b) m (panel_at i b)
+unfolding step
+got_step b m i e = go (opens (names b) m)
   where
-    got : Answer → Back → Got
-    got x y = record { answer = x; back = y }
+    got : Outcome → Got
+    got o = record { answer = o.answer; back = o.back }
 
-    back_step : (o : Bool) → opens (names b) m ≡ o → (step b m).back ≡ cond o (back m (turn m (panel_at i b)).reply) (back m [])
-    back_step true e = ap (λ (o : Outcome). o.back) (passed_is b m (opens_done (names b) m e)) ∙ own_back (names b) b m i a
-    back_step false e = ap (λ (o : Outcome). o.back) (refused_is b m e)
-
-    go : (o : Bool) → opens (names b) m ≡ o → got_by i b m ≡ cond o (got (turn m (panel_at i b)).answer (back m (turn m (panel_at i b)).reply)) (got (door (names b) m) (back m []))
-    go true e = ap (λ (x : Answer). got x (step b m).back) (own_answer b m i (record { passes = opens_done (names b) m e; meant = a })) ∙ ap (got (turn m (panel_at i b)).answer) (back_step true e)
-    go false e = ap (λ (x : Answer). got x (step b m).back) (shut_answer b m i a e) ∙ ap (got (door (names b) m)) (back_step false e)
+    go : (o : Bool) → got (cond o (passed (names b) b m) (refused b m (door (names b) m))) ≡ cond o (record { answer = (turn m (panel_at i b)).answer; back = back m (turn m (panel_at i b)).reply }) (record { answer = door (names b) m; back = back m [] })
+    go true =
+        ap (λ (a : Answer). record { answer = a; back = back m (own_turn (names b) b m).reply }) (own_answer (names b) b m i e)
+        ∙ ap (λ (x : Back). record { answer = (turn m (panel_at i b)).answer; back = x }) (own_back (names b) b m i e)
+    go false = refl
 
 turn_step : (b : DisplayBox) (m : Message) (i : ℕ) → addressed (names b) m i ≡ true → panel_at i (step b m).box ≡ becomes (names b) m (panel_at i b)
 turn_step b m i e = at_step b m i ∙ rw (e, and-true (opens (names b) m))
 
-alone : (i : ℕ) → Alone (λ (b : DisplayBox). i < length b.panels) names (panel_at i) after (got_by i) next (λ (ns : List Name) (m : Message). addressed ns m i) becomes says
+alone : (i : ℕ) → Alone (λ (b : DisplayBox). i < length b.panels) names (panel_at i) after got_by next (λ (ns : List Name) (m : Message). addressed ns m i) becomes says
 alone i = record {
   stays_sound = λ b m h. rw (places_kept b m) h;
   names_after = λ b m h. names_kept b m;

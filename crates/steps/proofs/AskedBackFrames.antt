@@ -34,7 +34,7 @@ use Rattle.steps.specs.Step.{turn, back_on, panel_at, step}
 use Rattle.steps.specs.Run.{run}
 use Rattle.steps.proofs.Stays.{sets_state, spared, value_lasts}
 use Rattle.steps.proofs.Door.{by_kjw}
-use Rattle.steps.proofs.Turns.{Reaches, has_room_lem, done_reaches, takes, goes_back}
+use Rattle.steps.proofs.Turns.{Reaches, has_room, done_reaches, takes, goes_back}
 
 -- a frame that was answered 0, on the link of the panel at place i
 module _ (b : DisplayBox) (i : ℕ) (m area : List ℕ) (d : (step b (kjw (suc i) m area)).answer ≡ Done) where
@@ -58,7 +58,7 @@ taken_asked room s k h = ap (λ (t : Turn KRecord). t.reply) (roomy room (turn_o
 pub enquiry_asked : (b : DisplayBox) (i l : ℕ) (s : State) (area : List ℕ) → Reaches b (kjw l (frame_of type_enquiry (state_letters s) blank) area) i → (step b (kjw l (frame_of type_enquiry (state_letters s) blank) area)).back ≡ back_on area (frame_of type_answer (state_letters s) (value_of s (panel_at i b).k))
 unfolding turn
 enquiry_asked b i l s area r =
-    let room = has_room_lem (by_kjw (frame_of type_enquiry (state_letters s) blank)) r in
+    let room = has_room (by_kjw (frame_of type_enquiry (state_letters s) blank)) r in
     (goes_back (by_kjw (frame_of type_enquiry (state_letters s) blank)) r).back_is ∙ ap (back_on area) (taken_asked (length area) s (panel_at i b).k room)
 
 -- POWR, AMUT, PMUT, VOLU, INPT and SCEN: an enquiry that comes to the panel next, or after any messages of which none that is addressed to it sets the state, is answered with the control's own parameters
@@ -67,7 +67,7 @@ control_asked b i l s p area area' ms h d n r =
     let control = frame_of type_control (state_letters s) p in
     let enquiry = frame_of type_enquiry (state_letters s) blank in
     let c = (step b (kjw (suc i) control area)).box in
-    let room = has_room_lem (by_kjw enquiry) r in
+    let room = has_room (by_kjw enquiry) r in
     let set =
     sym (taken_asked (length area') s (panel_at i c).k room)
     ∙ ap (λ (k : KRecord). (taken (length area') (turn_of enquiry) k).reply) (after b i control area d)
@@ -80,14 +80,14 @@ control_asked b i l s p area area' ms h d n r =
 pub power_toggled : (b : DisplayBox) (i : ℕ) (area : List ℕ) → (step b (kjw (suc i) (frame_of type_control (ascii "TPOW") blank) area)).answer ≡ Done → (panel_at i (step b (kjw (suc i) (frame_of type_control (ascii "TPOW") blank) area)).box).k ≡ with_power (turned_over (panel_at i b).k.power) (panel_at i b).k
 power_toggled b i area d =
     let m = frame_of type_control (ascii "TPOW") blank in
-    let room = has_room_lem (by_kjw m) (came b i m area d) in
+    let room = has_room (by_kjw m) (came b i m area d) in
     after b i m area d ∙ ap (λ (t : Turn KRecord). t.after) (roomy (length area) (turn_of m) (panel_at i b).k room) ∙ toggled_power (panel_at i b).k
 
 -- TPMU turns the picture mute over
 pub picture_toggled : (b : DisplayBox) (i : ℕ) (area : List ℕ) → (step b (kjw (suc i) (frame_of type_control (ascii "TPMU") blank) area)).answer ≡ Done → (panel_at i (step b (kjw (suc i) (frame_of type_control (ascii "TPMU") blank) area)).box).k ≡ with_pmut (turned_over (panel_at i b).k.pmut) (panel_at i b).k
 picture_toggled b i area d =
     let m = frame_of type_control (ascii "TPMU") blank in
-    let room = has_room_lem (by_kjw m) (came b i m area d) in
+    let room = has_room (by_kjw m) (came b i m area d) in
     after b i m area d ∙ ap (λ (t : Turn KRecord). t.after) (roomy (length area) (turn_of m) (panel_at i b).k room) ∙ toggled_picture (panel_at i b).k
 
 -- IRCC with sixteen digits, answered 0 on the link of the panel at place i
@@ -97,7 +97,7 @@ module _ (b : DisplayBox) (i : ℕ) (p area : List ℕ) (sixteen : length p ≡ 
 
   button_pressed : (u : Button) → button_of (decimal p) ≡ u → (u ≡ Unlisted → ⊥) → (panel_at i after_code).k ≡ after_press u (panel_at i b).k
   button_pressed u e n =
-      let room = has_room_lem (by_kjw (code_frame p)) (came b i (code_frame p) area d) in
+      let room = has_room (by_kjw (code_frame p)) (came b i (code_frame p) area d) in
       after b i (code_frame p) area d ∙ ap (λ (t : Turn KRecord). t.after) (number_met p sixteen (length area) room (panel_at i b).k digits u e n)
 
   -- whatever the row of the table, the panel is what document 02 says of its button

@@ -12,7 +12,7 @@ use Rattle.panels.specs.Records.{family_w, family_k}
 use Rattle.configure.specs.Configure.{configured}
 use Rattle.panels.specs.declared.Panel.{Panel}
 use Rattle.panels.specs.declared.DisplayBox.{DisplayBox}
-use Rattle.steps.specs.Messages.{Message, rs232c, kjw, tcp, udp, notice, busy, free}
+use Rattle.steps.specs.Messages.{Message, rs232c, kjw, tcp, udp}
 use Rattle.steps.specs.Step.{panel_at, Outcome, step}
 use Rattle.steps.specs.Run.{run}
 use Rattle.steps.proofs.Opened.{opened}
@@ -30,7 +30,6 @@ area_of (rs232c l m area) = area
 area_of (kjw l m area) = area
 area_of (tcp l m area) = area
 area_of (udp m) = []
-area_of (notice t l) = []
 
 -- a row: the messages before, the message, and what was seen: its answer with its place, the reply's bytes and what the row looks at afterwards
 pub record Row : Type 0 where
@@ -259,64 +258,3 @@ more =
 pub tried_more : map seen more ≡ map expected more
 unfolding opened
 tried_more = refl
-
--- ---- document 02, §9: while a panel is busy
-
-abbrev volume_asked : Message
-volume_asked = on_tcp 0x0e "STATget VOLUME"
-
-abbrev told40 : List ℕ
-told40 = packet 0x00 0x00 0x01 0x00 0x09 (ascii "VOLUME 40")
-
--- a message behind others, and what the box then holds
-abbrev after : List Message → Message → ℕ → List ℕ → (DisplayBox → List ℤ) → List ℤ → Row
-after before m answer reply looks values = record { before = before; message = m; answer = answer; place = 0; reply = reply; looks = looks; values = values }
-
--- panel 1 busy with its line full, and panel 4, which is group 2
-abbrev full : List Message
-full = busy 1 ∷ volume40 ∷ volume40 ∷ volume40 ∷ volume40 ∷ volume40 ∷ volume40 ∷ volume40 ∷ volume40 ∷ []
-
-abbrev full_group : List Message
-full_group = busy 4 ∷ to_group 2 ∷ to_group 2 ∷ to_group 2 ∷ to_group 2 ∷ to_group 2 ∷ to_group 2 ∷ to_group 2 ∷ to_group 2 ∷ []
-
--- how many wait at each of the four panels
-abbrev waiting : DisplayBox → List ℤ
-waiting b = map (λ (p : Panel). pos p.line.count) (take 4 b.panels)
-
-abbrev pub while_busy : List Row
-while_busy =
-    -- a notice is answered 0, on a link that is no W panel 17, and has no reply
-    says (busy 1) 0 [] ∷ says (free 1) 0 [] ∷ says (busy 3) 17 [] ∷ says (free 3) 17 [] ∷ says (busy 0) 17 [] ∷ says (free 9) 17 [] ∷
-    -- a set waits and is told, and stands when the panel is free
-    after (busy 1 ∷ []) volume40 0 ok volumes (pos 30 ∷ pos 30 ∷ pos 30 ∷ pos 30 ∷ []) ∷
-    after (busy 1 ∷ []) volume40 0 ok waiting (pos 1 ∷ pos 0 ∷ pos 0 ∷ pos 0 ∷ []) ∷
-    after (busy 1 ∷ volume40 ∷ []) volume_asked 0 told40 volumes (pos 30 ∷ pos 30 ∷ pos 30 ∷ pos 30 ∷ []) ∷
-    after (busy 1 ∷ volume40 ∷ []) (free 1) 0 [] volumes (pos 40 ∷ pos 30 ∷ pos 30 ∷ pos 30 ∷ []) ∷
-    after (busy 1 ∷ volume40 ∷ []) (free 1) 0 [] waiting (pos 0 ∷ pos 0 ∷ pos 0 ∷ pos 0 ∷ []) ∷
-    after (busy 1 ∷ volume40 ∷ free 1 ∷ []) volume_asked 0 told40 volumes (pos 40 ∷ pos 30 ∷ pos 30 ∷ pos 30 ∷ []) ∷
-    -- told busy again it goes on waiting
-    after (busy 1 ∷ volume40 ∷ []) (busy 1) 0 [] waiting (pos 1 ∷ pos 0 ∷ pos 0 ∷ pos 0 ∷ []) ∷
-    -- the ninth set: 15 with NG, and what is not understood is 6 on a full line too
-    after full (on_tcp 0x12 "STATset VOLUME 100") 15 (ng 0x00) waiting (pos 8 ∷ pos 0 ∷ pos 0 ∷ pos 0 ∷ []) ∷
-    after full (on_tcp 0x12 "STATset VOLUME 101") 6 ok waiting (pos 8 ∷ pos 0 ∷ pos 0 ∷ pos 0 ∷ []) ∷
-    after full volume_asked 0 told40 waiting (pos 8 ∷ pos 0 ∷ pos 0 ∷ pos 0 ∷ []) ∷
-    -- by UDP each decides for itself: panel 1 is full, panel 2 is free; panel 4 alone is full
-    after full (to_group 1) 0 [] volumes (pos 30 ∷ pos 40 ∷ pos 30 ∷ pos 30 ∷ []) ∷
-    after full_group (to_group 2) 15 [] waiting (pos 0 ∷ pos 0 ∷ pos 0 ∷ pos 8 ∷ []) ∷
-    after full_group (to_all 0x0e (ascii "STATget VOLUME")) 8 [] waiting (pos 0 ∷ pos 0 ∷ pos 0 ∷ pos 8 ∷ []) ∷
-    -- RS-232C: NAK and 16, behind 14 and 13, and for an unknown code too
-    after (busy 1 ∷ []) (remote_asked 1 512) 16 nak waiting (pos 0 ∷ pos 0 ∷ pos 0 ∷ pos 0 ∷ []) ∷
-    after (busy 1 ∷ []) (on_serial (0x02 ∷ 0x03 ∷ 0x01 ∷ 0x41 ∷ 0x99 ∷ 0x22 ∷ [])) 16 nak waiting (pos 0 ∷ pos 0 ∷ pos 0 ∷ pos 0 ∷ []) ∷
-    record { before = busy 1 ∷ []; message = on_serial (0x02 ∷ 0x03 ∷ 0x01 ∷ 0x41 ∷ 0x6e ∷ 0x4e ∷ []); answer = 14; place = 5; reply = nak; looks = waiting; values = pos 0 ∷ pos 0 ∷ pos 0 ∷ pos 0 ∷ [] } ∷
-    record { before = busy 1 ∷ []; message = on_serial (0x02 ∷ 0x04 ∷ 0x01 ∷ 0x41 ∷ 0x6e ∷ 0x4d ∷ []); answer = 13; place = 1; reply = nak; looks = waiting; values = pos 0 ∷ pos 0 ∷ pos 0 ∷ pos 0 ∷ [] } ∷
-    after (busy 1 ∷ busy 2 ∷ free 1 ∷ []) (remote_asked 1 512) 0 (0x02 ∷ 0x04 ∷ 0x41 ∷ 0x01 ∷ 0x7e ∷ 0x01 ∷ 0x3b ∷ []) waiting (pos 0 ∷ pos 0 ∷ pos 0 ∷ pos 0 ∷ []) ∷
-    -- in order: OFF for a flip is decided when it is carried out, and shifts and RESET wait too
-    after (on_tcp 0x10 "STATset FLIPV ON" ∷ busy 1 ∷ on_tcp 0x10 "STATset FLIPH ON" ∷ on_tcp 0x11 "STATset FLIPV OFF" ∷ []) (free 1) 0 [] flips (pos 1 ∷ pos 0 ∷ pos 0 ∷ pos 0 ∷ []) ∷
-    after (busy 1 ∷ on_tcp 0x12 "STATset SHIFTH -30" ∷ []) (free 1) 0 [] shift_h (negsuc 29 ∷ []) ∷
-    after (busy 1 ∷ on_tcp 0x12 "STATset SHIFTH -30" ∷ on_tcp 0x0d "STATset RESET" ∷ []) (free 1) 0 [] shift_h (pos 0 ∷ []) ∷
-    after (busy 1 ∷ on_tcp 0x0d "STATset RESET" ∷ on_tcp 0x12 "STATset SHIFTH -30" ∷ []) (free 1) 0 [] shift_h (negsuc 29 ∷ []) ∷
-    []
-
-pub tried_busy : map seen while_busy ≡ map expected while_busy
-unfolding opened
-tried_busy = refl

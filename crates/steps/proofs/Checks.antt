@@ -1,6 +1,6 @@
 -- "Checks run in the order of the numbers, and the first that applies is given": the door's checks and what was heard are one list of
 -- conditions, and the answer is the number of the first that holds.
-use Prim.Native.Nat.{ℕ, zero, suc, ◌-◌, ◌≤◌}
+use Prim.Native.Nat.{ℕ, zero, suc, ◌≤◌}
 use mathlib.Core.Path.{◌≡◌, refl, sym, ap, ◌∙◌}
 use mathlib.Core.Bool.{Bool, true, false, not, cond, ◌&&◌, or-true}
 use mathlib.Core.List.{List, [], ◌∷◌}
@@ -8,33 +8,30 @@ use lib.Dec.{eqb, ltb}
 use lib.ListN.{length, get_or, drop}
 use borrow.Author.Tests.{eqb-true, ltb-true, ltb-false, le-ltb}
 use Rattle.terms.specs.Answers.{number_of}
-use Rattle.terms.specs.declared.Answer.TheVariants.{Done, WrongLength, NotForUs, NoWPanel}
+use Rattle.terms.specs.declared.Answer.TheVariants.{Done, WrongLength, NotForUs}
 use Rattle.turns.specs.Turns.{Turn}
 use Rattle.turns.proofs.Turns.{roomy}
 use Rattle.panels.specs.Records.{family_w, family_k}
 use Rattle.panels.specs.Valid.{valid}
-use Rattle.panels.specs.Waits.{is_busy}
 use Rattle.panels.specs.declared.Panel.{Panel}
 use Rattle.panels.specs.declared.WRecord.{WRecord}
 use Rattle.panels.specs.declared.KRecord.{KRecord}
-use Rattle.settling.specs.Settling.{dropped}
-use Rattle.settling.specs.declared.Standing.{Standing}
 use Rattle.panels.specs.declared.DisplayBox.{DisplayBox}
 use Rattle.rs232c.specs.Replies as serial
 use Rattle.kjw.specs.Replies as frames
 use Rattle.vmc_asks.specs.Asks.{asks_status}
-use Rattle.vmc_asks.specs.declared.Order as wordOrder
 use Rattle.sdcp_asks.specs.Asks as packetAsks
 use Rattle.sdcp_asks.proofs.Cast.{unless_not}
-use Rattle.sdcp.specs.Busy as packetsAt
-use Rattle.steps.specs.Messages.{Message, rs232c, kjw, tcp, udp, notice, Name, nobody, a_w, a_k, name_of, names, on_link, is_w, is_k}
+use Rattle.sdcp.specs.Replies as packets
+use Rattle.sdcp.proofs.Refusals.{turned_answer}
+use Rattle.steps.specs.Messages.{Message, rs232c, kjw, tcp, udp, Name, nobody, a_w, a_k, name_of, names, on_link, is_w, is_k}
 use Rattle.steps.specs.Addressing.{target, any_called}
-use Rattle.steps.specs.Step.{checks, to_nobody, door, turn, Outcome, panel_at, cast_answer, any_takes, answer_to, through, step}
+use Rattle.steps.specs.Step.{checks, to_nobody, door, turn, Outcome, panel_at, answer_to, step}
 use Rattle.steps.proofs.Door.{Lends, by_rs232c, by_kjw, by_tcp_lem, nobody_shut, speaks}
 use Rattle.steps.proofs.Validity.{bad_names, in_use_name, unused_name}
 use Rattle.steps.proofs.Refusals.{too_small, no_such_panel}
 use Rattle.steps.proofs.Addressed.{w_panel}
-use Rattle.steps.proofs.Judged.{first_of, own_checks, serial_conditions, serial_answered, packet_conditions, packet_unclear, packet_full, packet_answered, at_answer, frame_conditions, frame_answered}
+use Rattle.steps.proofs.Judged.{first_of, own_checks, serial_conditions, serial_answered, packet_conditions, packet_unclear, packet_answered, frame_conditions, frame_answered}
 
 -- ---- the conditions
 
@@ -44,18 +41,13 @@ abbrev pub has_panel : DisplayBox → ℕ → ℕ → Bool
 has_panel b zero family = false
 has_panel b (suc i) family = valid b && ltb i b.count && eqb (panel_at i b).family family
 
--- document 02, §9: the panel at place i has room for the order, or need not let it wait
-abbrev pub takes_at : DisplayBox → ℕ → wordOrder.Order → Bool
-takes_at b i o = not (dropped o (panel_at i b).line)
-
 -- those of the answers, in the order of their checks: "reply area under 512 bytes", no panel, and what its protocol says of the others. "UDP
--- skips 1 and 2.", document 02, §5, has 8 for UDP alone, and §9 has 16 for RS-232C, 15 where no panel that is addressed took a set, and 17 for a notice
+-- skips 1 and 2.", and document 02, §5, has 8 for UDP alone
 abbrev pub conditions : DisplayBox → Message → List Bool
-conditions b (rs232c l m area) = ltb (length area) 512 ∷ not (has_panel b l family_w) ∷ serial_conditions (is_busy (panel_at (l - 1) b).line) m
+conditions b (rs232c l m area) = ltb (length area) 512 ∷ not (has_panel b l family_w) ∷ serial_conditions m
 conditions b (kjw l m area) = ltb (length area) 512 ∷ not (has_panel b l family_k) ∷ frame_conditions m
-conditions b (tcp l m area) = ltb (length area) 512 ∷ not (has_panel b l family_w) ∷ packet_conditions (eqb (target (names b) (tcp l m area)) 0) false (takes_at b (target (names b) (tcp l m area) - 1)) m
-conditions b (udp m) = false ∷ false ∷ packet_conditions (not (any_called m (names b))) (asks_status (packetAsks.data_of m)) (any_takes (names b) b m) m
-conditions b (notice t l) = false ∷ false ∷ false ∷ false ∷ false ∷ false ∷ false ∷ false ∷ false ∷ false ∷ false ∷ false ∷ false ∷ false ∷ not (has_panel b l family_w) ∷ []
+conditions b (tcp l m area) = ltb (length area) 512 ∷ not (has_panel b l family_w) ∷ packet_conditions (eqb (target (names b) (tcp l m area)) 0) false m
+conditions b (udp m) = false ∷ false ∷ packet_conditions (not (any_called m (names b))) (asks_status (packetAsks.data_of m)) m
 
 -- ---- check 2 in words of the record
 
@@ -108,11 +100,11 @@ lent_checked {l} {area} {m} b fits rest k s go = room (ltb (length area) 512) re
     room true t = ap number (too_small b l area m k (ltb-true (length area) 512 t))
     room false t = link fits refl (ltb-false (length area) 512 t)
 
-serial_checked : (b : DisplayBox) (l : ℕ) (m area : List ℕ) → 512 ≤ length area → is_w (on_link (names b) l) ≡ true → number_of (step b (rs232c l m area)).answer ≡ first_of own_checks (serial_conditions (is_busy (panel_at (l - 1) b).line) m)
+serial_checked : (b : DisplayBox) (l : ℕ) (m area : List ℕ) → 512 ≤ length area → is_w (on_link (names b) l) ≡ true → number_of (step b (rs232c l m area)).answer ≡ first_of own_checks (serial_conditions m)
 unfolding step door turn target
 serial_checked b l m area h w =
     rw (le-ltb (length area) 512 h, w)
-    (ap (λ (t : Turn WRecord). number_of t.answer) (roomy (length area) (serial.turn_at (is_busy (panel_at (l - 1) b).line) m) _ h) ∙ serial_answered (is_busy (panel_at (l - 1) b).line) m _)
+    (ap (λ (t : Turn WRecord). number_of t.answer) (roomy (length area) (serial.turn_of m) _ h) ∙ serial_answered m _)
 
 frame_checked : (b : DisplayBox) (l : ℕ) (m area : List ℕ) → 512 ≤ length area → is_k (on_link (names b) l) ≡ true → number_of (step b (kjw l m area)).answer ≡ first_of own_checks (frame_conditions m)
 unfolding step door turn target
@@ -123,36 +115,26 @@ frame_checked b l m area h w =
 -- ---- a packet
 
 -- where nobody is addressed it is 3 or 4, and else what was heard decides
-packet_checked : (b : DisplayBox) (x : Message) (m : List ℕ) (none asked : Bool) (took : wordOrder.Order → Bool) → door (names b) x ≡ cond none (to_nobody m) Done → answer_to (names b) b x ≡ cast_answer took (packetAsks.unless_status asked (packetAsks.heard_of m)) → number_of (step b x).answer ≡ first_of own_checks (packet_conditions none asked took m)
+packet_checked : (b : DisplayBox) (x : Message) (m : List ℕ) (none asked : Bool) → door (names b) x ≡ cond none (to_nobody m) Done → answer_to (names b) b x ≡ packets.answer_of (packetAsks.unless_status asked (packetAsks.heard_of m)) → number_of (step b x).answer ≡ first_of own_checks (packet_conditions none asked m)
 unfolding step to_nobody
-packet_checked b x m true asked took d a = rw (d, nobody_shut m, or-true (not (packetAsks.is_ours m))) (go (ltb (length m) 13))
+packet_checked b x m true asked d a = rw (d, nobody_shut m, or-true (not (packetAsks.is_ours m))) (go (ltb (length m) 13))
   where
-    go : (t : Bool) → number_of (cond t WrongLength NotForUs) ≡ first_of own_checks (t ∷ true ∷ packetAsks.request_wrong m ∷ packetAsks.item_wrong m ∷ packetAsks.too_long m ∷ packetAsks.not_matching m ∷ false ∷ false ∷ asked ∷ false ∷ packet_unclear (packetAsks.heard_of m) ∷ packet_full took (packetAsks.heard_of m) ∷ [])
+    go : (t : Bool) → number_of (cond t WrongLength NotForUs) ≡ first_of own_checks (t ∷ true ∷ packetAsks.request_wrong m ∷ packetAsks.item_wrong m ∷ packetAsks.too_long m ∷ packetAsks.not_matching m ∷ false ∷ false ∷ asked ∷ packet_unclear (packetAsks.heard_of m) ∷ [])
     go true = refl
     go false = refl
-packet_checked b x m false asked took d a = rw d (ap number_of a ∙ packet_answered m asked took)
+packet_checked b x m false asked d a = rw d (ap number_of a ∙ packet_answered m asked)
 
-tcp_checked : (b : DisplayBox) (l : ℕ) (m area : List ℕ) → 512 ≤ length area → is_w (on_link (names b) l) ≡ true → number_of (step b (tcp l m area)).answer ≡ first_of own_checks (packet_conditions (eqb (target (names b) (tcp l m area)) 0) false (takes_at b (target (names b) (tcp l m area) - 1)) m)
+tcp_checked : (b : DisplayBox) (l : ℕ) (m area : List ℕ) → 512 ≤ length area → is_w (on_link (names b) l) ≡ true → number_of (step b (tcp l m area)).answer ≡ first_of own_checks (packet_conditions (eqb (target (names b) (tcp l m area)) 0) false m)
 unfolding door turn
 tcp_checked b l m area h w =
-    packet_checked b (tcp l m area) m (eqb (target (names b) (tcp l m area)) 0) false (takes_at b (target (names b) (tcp l m area) - 1)) (rw (le-ltb (length area) 512 h, w))
-    (ap (λ (t : Turn Standing). t.answer) (roomy (length area) (packetsAt.turn_at m) _ h) ∙ at_answer m (packetAsks.heard_of m) _ ∙ ap (cast_answer (takes_at b (target (names b) (tcp l m area) - 1))) (sym (unless_not (packetAsks.heard_of m))))
+    packet_checked b (tcp l m area) m (eqb (target (names b) (tcp l m area)) 0) false (rw (le-ltb (length area) 512 h, w))
+    (ap (λ (t : Turn WRecord). t.answer) (roomy (length area) (packets.turn_of m) _ h) ∙ turned_answer m (packetAsks.heard_of m) _ ∙ ap packets.answer_of (sym (unless_not (packetAsks.heard_of m))))
 
-udp_checked : (b : DisplayBox) (m : List ℕ) → number_of (step b (udp m)).answer ≡ first_of own_checks (packet_conditions (not (any_called m (names b))) (asks_status (packetAsks.data_of m)) (any_takes (names b) b m) m)
+udp_checked : (b : DisplayBox) (m : List ℕ) → number_of (step b (udp m)).answer ≡ first_of own_checks (packet_conditions (not (any_called m (names b))) (asks_status (packetAsks.data_of m)) m)
 unfolding door packetAsks.cast_of
-udp_checked b m = packet_checked b (udp m) m (not (any_called m (names b))) (asks_status (packetAsks.data_of m)) (any_takes (names b) b m) (go (any_called m (names b))) refl
+udp_checked b m = packet_checked b (udp m) m (not (any_called m (names b))) (asks_status (packetAsks.data_of m)) (go (any_called m (names b))) refl
   where
     go : (t : Bool) → cond t Done (to_nobody m) ≡ cond (not t) (to_nobody m) Done
-    go true = refl
-    go false = refl
-
--- ---- a notice
-
-notice_checked : (b : DisplayBox) (t : Bool) (l : ℕ) → number_of (step b (notice t l)).answer ≡ first_of checks (conditions b (notice t l))
-unfolding step door
-notice_checked b t l = rw (w_has b l) (go (has_panel b l family_w))
-  where
-    go : (h : Bool) → number_of (through (names b) b (notice t l) (cond h Done NoWPanel)).answer ≡ cond (not h) 17 0
     go true = refl
     go false = refl
 
@@ -160,8 +142,7 @@ notice_checked b t l = rw (w_has b l) (go (has_panel b l family_w))
 
 -- whatever the box and the message: the number of the first condition that holds, and 0 where none does
 pub checked : (b : DisplayBox) (m : Message) → number_of (step b m).answer ≡ first_of checks (conditions b m)
-checked b (rs232c l m area) = lent_checked b (has_panel b l family_w) (serial_conditions (is_busy (panel_at (l - 1) b).line) m) (by_rs232c m) (w_has b l) (λ h f. serial_checked b l m area h (w_has b l ∙ f))
+checked b (rs232c l m area) = lent_checked b (has_panel b l family_w) (serial_conditions m) (by_rs232c m) (w_has b l) (λ h f. serial_checked b l m area h (w_has b l ∙ f))
 checked b (kjw l m area) = lent_checked b (has_panel b l family_k) (frame_conditions m) (by_kjw m) (k_has b l) (λ h f. frame_checked b l m area h (k_has b l ∙ f))
-checked b (tcp l m area) = lent_checked b (has_panel b l family_w) (packet_conditions (eqb (target (names b) (tcp l m area)) 0) false (takes_at b (target (names b) (tcp l m area) - 1)) m) (by_tcp_lem m) (w_has b l) (λ h f. tcp_checked b l m area h (w_has b l ∙ f))
+checked b (tcp l m area) = lent_checked b (has_panel b l family_w) (packet_conditions (eqb (target (names b) (tcp l m area)) 0) false m) (by_tcp_lem m) (w_has b l) (λ h f. tcp_checked b l m area h (w_has b l ∙ f))
 checked b (udp m) = udp_checked b m
-checked b (notice t l) = notice_checked b t l

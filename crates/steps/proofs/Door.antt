@@ -1,24 +1,24 @@
 -- What passes the door and is addressed to a place finds there a panel of the family that its way in speaks to: the door judges the
 -- link, and a pair or a group finds W panels only.
 use mathlib.Core.Path.{◌≡◌, refl, sym, ap, ◌∙◌}
-use mathlib.Core.Bool.{Bool, true, false, cond, ◌&&◌, ◌||◌}
-use mathlib.Core.List.{List, [], ◌∷◌}
+use mathlib.Core.Bool.{Bool, true, false, cond, ◌&&◌}
+use mathlib.Core.List.{List, []}
 use Prim.Native.Nat.{ℕ, zero, suc, ◌≤◌}
 use native.Mathlib.Omega.{arith}
 use lib.Dec.{eqb, ltb}
 use lib.ListN.{length, get_or}
-use borrow.Author.Tests.{eqb-true, eq-eqb, ltb-false}
-use Rattle.laws.proofs.Conditions.{choose, false_true, passed as rung}
+use borrow.Author.Tests.{eqb-true, ltb-false}
+use Rattle.laws.proofs.Conditions.{choose, passed as rung}
 use Rattle.terms.specs.Answers.{number_of}
 use Rattle.terms.proofs.Answers.{number_tells}
 use Rattle.terms.specs.declared.Answer.{Answer}
-use Rattle.terms.specs.declared.Answer.TheVariants.{Done, AreaTooSmall, NoSuchPanel, WrongLength, NotForUs, NoWPanel}
+use Rattle.terms.specs.declared.Answer.TheVariants.{Done, AreaTooSmall, NoSuchPanel, WrongLength, NotForUs}
 use Rattle.terms.specs.declared.GroupId.{GroupId}
 use Rattle.terms.specs.declared.UnitId.{UnitId}
 use Rattle.panels.specs.declared.DisplayBox.{DisplayBox}
 use Rattle.sdcp_asks.specs.Asks.{group_of, unit_of}
-use Rattle.steps.specs.Messages.{Message, rs232c, kjw, tcp, udp, notice, Name, nobody, a_w, a_k, names, on_link, is_w, is_k}
-use Rattle.steps.specs.Addressing.{has_ids, is_id, is_pair, by_tcp, target, is_called, addressed, any_called, pair_number}
+use Rattle.steps.specs.Messages.{Message, rs232c, kjw, tcp, udp, Name, nobody, a_w, a_k, names, on_link, is_w, is_k}
+use Rattle.steps.specs.Addressing.{has_ids, is_id, is_pair, by_tcp, target, is_called, addressed, pair_number}
 use Rattle.steps.specs.Step.{if_open, to_nobody, door, Outcome, passed, refused, step}
 use Rattle.steps.proofs.Finding.{found}
 
@@ -28,13 +28,12 @@ pub data Lends (l : ℕ) (area : List ℕ) : Message → Type 0 where
   by_kjw : (m : List ℕ) → Lends l area (kjw l m area)
   by_tcp_holds : (m : List ℕ) → Lends l area (tcp l m area)
 
--- "All but UDP come with a lent reply area.", and a notice has no bytes either
-pub by_way : (P : Message → Type 0) → ((l : ℕ) (area : List ℕ) (m : Message) → Lends l area m → P m) → ((m : List ℕ) → P (udp m)) → ((t : Bool) (l : ℕ) → P (notice t l)) → (m : Message) → P m
-by_way P with-link by_udp told (rs232c l m area) = with-link l area (rs232c l m area) (by_rs232c m)
-by_way P with-link by_udp told (kjw l m area) = with-link l area (kjw l m area) (by_kjw m)
-by_way P with-link by_udp told (tcp l m area) = with-link l area (tcp l m area) (by_tcp_holds m)
-by_way P with-link by_udp told (udp m) = by_udp m
-by_way P with-link by_udp told (notice t l) = told t l
+-- "All but UDP come with a lent reply area."
+pub by_way : (P : Message → Type 0) → ((l : ℕ) (area : List ℕ) (m : Message) → Lends l area m → P m) → ((m : List ℕ) → P (udp m)) → (m : Message) → P m
+by_way P with-link by_udp (rs232c l m area) = with-link l area (rs232c l m area) (by_rs232c m)
+by_way P with-link by_udp (kjw l m area) = with-link l area (kjw l m area) (by_kjw m)
+by_way P with-link by_udp (tcp l m area) = with-link l area (tcp l m area) (by_tcp_holds m)
+by_way P with-link by_udp (udp m) = by_udp m
 
 -- checks 1, 2 and 4 are passed
 abbrev pub opens : List Name → Message → Bool
@@ -70,7 +69,6 @@ shut (rs232c l m area) = rw no_link (lent_shut area Done)
 shut (kjw l m area) = rw no_link (lent_shut area Done)
 shut (tcp l m area) = rw no_link (lent_shut area (cond (eqb (target [] (tcp l m area)) 0) (to_nobody m) Done))
 shut (udp m) = nobody_shut m
-shut (notice t l) = rw no_link
 
 -- ---- a message is of its panel's family
 
@@ -80,14 +78,12 @@ speaks (rs232c l m area) x = is_w x
 speaks (kjw l m area) x = is_k x
 speaks (tcp l m area) x = is_w x
 speaks (udp m) x = is_w x
-speaks (notice t l) x = is_w x
 
 pub nobody_speaks : (m : Message) → speaks m nobody ≡ false
 nobody_speaks (rs232c l m area) = refl
 nobody_speaks (kjw l m area) = refl
 nobody_speaks (tcp l m area) = refl
 nobody_speaks (udp m) = refl
-nobody_speaks (notice t l) = refl
 
 -- checks 1 and 2 stand before all others of a message with a link
 pub lent_door : {l : ℕ} {area : List ℕ} {m : Message} (ns : List Name) → Lends l area m → (rest : Answer) × (door ns m ≡ if_open area (speaks m (on_link ns l)) rest)
@@ -112,10 +108,6 @@ lent_passed area fits rest e =
 
 pub door_passed : {l : ℕ} {area : List ℕ} {m : Message} (ns : List Name) → Lends l area m → door ns m ≡ Done → Lent area (speaks m (on_link ns l))
 door_passed {l} {area} {m} ns k e = lent_passed area (speaks m (on_link ns l)) (lent_door ns k).0 (sym (lent_door ns k).1 ∙ e)
-
-or_none : (x y : Bool) → (x || y) ≡ false → (x ≡ false) × (y ≡ false)
-or_none true y e = absurd (false_true (sym e))
-or_none false y e = (refl, e)
 
 pair_w : (g : GroupId) (u : UnitId) (x : Name) → is_pair g u x ≡ true → is_w x ≡ true
 unfolding is_pair
@@ -152,76 +144,9 @@ tcp_w ns l m i w =
     no : eqb 0 (suc i) ≡ true → is_w (get_or ns i nobody) ≡ true
     no e = absurd (let z = eqb-true 0 (suc i) e in omega arith)
 
--- a notice that passes has a W panel on its link
-notice_w : (ns : List Name) (t : Bool) (l : ℕ) → door ns (notice t l) ≡ Done → is_w (on_link ns l) ≡ true
-unfolding door
-notice_w ns t l = go (is_w (on_link ns l))
-  where
-    go : (f : Bool) → cond f Done NoWPanel ≡ Done → f ≡ true
-    go true q = refl
-    go false q = absurd (let z : ◌≡◌ {A = ℕ} 17 0 = ap number_of q in omega arith)
-
 pub its_family : (ns : List Name) (m : Message) (i : ℕ) → door ns m ≡ Done → addressed ns m i ≡ true → speaks m (get_or ns i nobody) ≡ true
 unfolding addressed target
 its_family ns (rs232c l m area) i d a = link_is is_w ns l i a (door_passed ns (by_rs232c m) d).link_fits
 its_family ns (kjw l m area) i d a = link_is is_k ns l i a (door_passed ns (by_kjw m) d).link_fits
 its_family ns (tcp l m area) i d a = tcp_w ns l m i (door_passed ns (by_tcp_holds m) d).link_fits a
 its_family ns (udp m) i d a = called_w m (get_or ns i nobody) a
-its_family ns (notice t l) i d a = link_is is_w ns l i a (notice_w ns t l d)
-
--- a panel that is called passes the door
-pub uncalled : (m : List ℕ) (ns : List Name) → any_called m ns ≡ false → (i : ℕ) → is_called m (get_or ns i nobody) ≡ false
-unfolding is_called
-uncalled m [] n i = refl
-uncalled m (x ∷ ns) n zero = (or_none (is_called m x) (any_called m ns) n).0
-uncalled m (x ∷ ns) n (suc i) = uncalled m ns (or_none (is_called m x) (any_called m ns) n).1 i
-
-pub called_opens : (ns : List Name) (m : List ℕ) (i : ℕ) → addressed ns (udp m) i ≡ true → door ns (udp m) ≡ Done
-unfolding door addressed
-called_opens ns m i a = go (any_called m ns) refl
-  where
-    go : (t : Bool) → any_called m ns ≡ t → cond t Done (to_nobody m) ≡ Done
-    go true e = refl
-    go false e = absurd (false_true (sym (uncalled m ns e i) ∙ a))
-
--- ---- what passes the door is addressed to a place
-
-on_place : (f : Name → Bool) (ns : List Name) (l : ℕ) → f nobody ≡ false → f (on_link ns l) ≡ true → (i : ℕ) × (eqb l (suc i) ≡ true)
-on_place f ns zero n e = absurd (false_true (sym n ∙ e))
-on_place f ns (suc i) n e = (i, eq-eqb (suc i) (suc i) refl)
-
-some_called : (m : List ℕ) (ns : List Name) → any_called m ns ≡ true → (i : ℕ) × (is_called m (get_or ns i nobody) ≡ true)
-some_called m [] e = absurd (false_true e)
-some_called m (x ∷ ns) e = go (is_called m x) refl e (some_called m ns)
-  where
-    go : (c : Bool) → is_called m x ≡ c → (c || any_called m ns) ≡ true → (any_called m ns ≡ true → (i : ℕ) × (is_called m (get_or ns i nobody) ≡ true))
-        → (i : ℕ) × (is_called m (get_or (x ∷ ns) i nobody) ≡ true)
-    go true c e r = (0, c)
-    go false c e r = let t = r e in (suc t.0, t.1)
-
--- one that is refused where nobody is addressed is not let through
-nobody_not_done : (m : List ℕ) → to_nobody m ≡ Done → ⊥
-nobody_not_done m e = false_true (sym (nobody_shut m) ∙ ap (λ (a : Answer). eqb (number_of a) 0) e)
-
-open_rest : (area : List ℕ) (fits : Bool) (rest : Answer) → if_open area fits rest ≡ Done → rest ≡ Done
-open_rest area fits rest e = go fits (rung (ltb (length area) 512) AreaTooSmall (cond fits rest NoSuchPanel) Done (λ q. let z : ◌≡◌ {A = ℕ} 1 0 = ap number_of q in omega arith) e).1
-  where
-    go : (f : Bool) → cond f rest NoSuchPanel ≡ Done → rest ≡ Done
-    go true q = q
-    go false q = absurd (let z : ◌≡◌ {A = ℕ} 2 0 = ap number_of q in omega arith)
-
-tcp_target : (m area : List ℕ) (fits : Bool) (t : ℕ) → if_open area fits (cond (eqb t 0) (to_nobody m) Done) ≡ Done → (i : ℕ) × (eqb t (suc i) ≡ true)
-tcp_target m area fits zero e = absurd (nobody_not_done m (open_rest area fits (to_nobody m) e))
-tcp_target m area fits (suc i) e = (i, eq-eqb (suc i) (suc i) refl)
-
-pub meets : (ns : List Name) (m : Message) → door ns m ≡ Done → (i : ℕ) × (addressed ns m i ≡ true)
-unfolding addressed target door
-meets ns (rs232c l m area) d = on_place is_w ns l refl (door_passed {l = l} {area = area} ns (by_rs232c m) d).link_fits
-meets ns (kjw l m area) d = on_place is_k ns l refl (door_passed {l = l} {area = area} ns (by_kjw m) d).link_fits
-meets ns (tcp l m area) d = tcp_target m area (is_w (on_link ns l)) (by_tcp ns l m) d
-meets ns (notice t l) d = on_place is_w ns l refl (notice_w ns t l d)
-meets ns (udp m) d = go (any_called m ns) refl d
-  where
-    go : (c : Bool) → any_called m ns ≡ c → cond c Done (to_nobody m) ≡ Done → (i : ℕ) × (is_called m (get_or ns i nobody) ≡ true)
-    go true c e = some_called m ns c
-    go false c e = absurd (nobody_not_done m e)

@@ -1,60 +1,55 @@
 -- Document 02, §2, over the box: a packet whose string has an end does what it does without, to any box, by TCP and by UDP. Whom it
--- comes to is read off its first eight bytes, and what each panel does with it is the same (`turn_at_ended`).
+-- comes to is read off its first eight bytes, and what each panel does with it is the same (`turn_ended`).
 use Prim.Native.Nat.{ℕ, suc, ◌-◌}
 use mathlib.Core.Path.{◌≡◌, refl, sym, ap, fun_ext, ◌∙◌}
-use mathlib.Core.Bool.{Bool, not, cond}
+use mathlib.Core.Bool.{Bool, cond}
 use mathlib.Core.List.{List, [], ◌∷◌}
 use native.Mathlib.Omega.{arith}
 use lib.Dec.{eqb}
 use lib.ListN.{length, get_or, take}
 use borrow.Author.Tests.{le-ltb}
-use Rattle.laws.specs.Runs.{each, some_of}
+use Rattle.laws.specs.Runs.{each}
 use Rattle.terms.specs.Answers.{number_of}
 use Rattle.terms.specs.declared.Answer.{Answer}
 use Rattle.terms.specs.declared.Answer.TheVariants.{Done}
 use Rattle.turns.specs.Turns.{Turn, taken, turn_with}
-use Rattle.settling.specs.Settling.{dropped}
-use Rattle.settling.specs.declared.Standing.{Standing}
-use Rattle.vmc_asks.specs.declared.Order.{Order}
+use Rattle.panels.specs.declared.WRecord.{WRecord}
 use Rattle.panels.specs.declared.Panel.{Panel}
 use Rattle.panels.specs.declared.DisplayBox.{DisplayBox}
 use Rattle.sdcp_asks.specs.Asks.{cast_of}
 use Rattle.sdcp_asks.specs.declared.Heard.{Heard}
-use Rattle.sdcp.specs.Busy.{turn_at, cast_turn_at}
-use Rattle.sdcp.proofs.Ended.{EndedAs, first, turn_at_ended, cast_ended, cast_at_ended}
+use Rattle.sdcp.specs.Replies.{answer_of, turn_of, cast_turn_of}
+use Rattle.sdcp.proofs.Ended.{EndedAs, first, turn_ended, cast_ended, cast_turn_ended}
 use Rattle.steps.specs.Messages.{Name, nobody, is_w, on_link, names, tcp, udp}
 use Rattle.steps.specs.Addressing.{by_tcp, target, is_called, addressed, any_called}
-use Rattle.steps.specs.Step.{standing_of, with_standing, with_panels, cast_answer, if_open, to_nobody, door, turn, back_on, nothing, panel_at, Outcome, step}
+use Rattle.steps.specs.Step.{with_w, with_panels, if_open, to_nobody, door, turn, back_on, nothing, panel_at, Outcome, step}
 use Rattle.steps.proofs.Addressed.{target_alike, called_alike}
 
 -- the step by TCP, of what it reads of a packet: whose turn it is, the answer where it is nobody's, and what a panel does with it
-by_link : DisplayBox → ℕ → List ℕ → ℕ → Answer → (Standing → Turn Standing) → Outcome
+by_link : DisplayBox → ℕ → List ℕ → ℕ → Answer → (WRecord → Turn WRecord) → Outcome
 by_link b l area n none does = cond (eqb (number_of checked) 0) done (record { box = b; answer = checked; back = back_on area [] })
   where
     checked : Answer
     checked = if_open area (is_w (on_link (names b) l)) (cond (eqb n 0) none Done)
 
     turns : Panel → Turn Panel
-    turns x = turn_with (with_standing x) (taken (length area) does (standing_of x))
+    turns x = turn_with (with_w x) (taken (length area) does x.w)
 
     done : Outcome
     done = record { box = with_panels b (each (λ (i : ℕ). eqb n (suc i)) (λ (x : Panel). (turns x).after) b.panels); answer = (turns (panel_at (n - 1) b)).answer; back = back_on area (turns (panel_at (n - 1) b)).reply }
 
-by_link_lem : (b : DisplayBox) (l : ℕ) (m area : List ℕ) → step b (tcp l m area) ≡ by_link b l area (by_tcp (names b) l m) (to_nobody m) (turn_at m)
+by_link_lem : (b : DisplayBox) (l : ℕ) (m area : List ℕ) → step b (tcp l m area) ≡ by_link b l area (by_tcp (names b) l m) (to_nobody m) (turn_of m)
 unfolding by_link step door turn target addressed
 by_link_lem b l m area = refl
 
--- and by UDP: whom it calls, what is heard of the packet, and what a panel does with it
-by_call : DisplayBox → (Name → Bool) → Bool → Answer → Heard → (Standing → Turn Standing) → Outcome
+-- and by UDP: whom it calls, what the packet is answered with, and what a panel does with it
+by_call : DisplayBox → (Name → Bool) → Bool → Answer → Answer → (WRecord → Turn WRecord) → Outcome
 by_call b calls any none heard does = cond (eqb (number_of (cond any Done none)) 0) done (record { box = b; answer = cond any Done none; back = nothing })
   where
-    any_took : Order → Bool
-    any_took o = some_of (λ (i : ℕ). calls (get_or (names b) i nobody)) (λ (x : Panel). not (dropped o x.line)) b.panels
-
     done : Outcome
-    done = record { box = with_panels b (each (λ (i : ℕ). calls (get_or (names b) i nobody)) (λ (x : Panel). (turn_with (with_standing x) (does (standing_of x))).after) b.panels); answer = cast_answer any_took heard; back = nothing }
+    done = record { box = with_panels b (each (λ (i : ℕ). calls (get_or (names b) i nobody)) (λ (x : Panel). (turn_with (with_w x) (does x.w)).after) b.panels); answer = heard; back = nothing }
 
-by_call_lem : (b : DisplayBox) (m : List ℕ) → step b (udp m) ≡ by_call b (is_called m) (any_called m (names b)) (to_nobody m) (cast_of m) (cast_turn_at m)
+by_call_lem : (b : DisplayBox) (m : List ℕ) → step b (udp m) ≡ by_call b (is_called m) (any_called m (names b)) (to_nobody m) (answer_of (cast_of m)) (cast_turn_of m)
 unfolding by_call step door turn addressed
 by_call_lem b m = refl
 
@@ -70,29 +65,29 @@ module _ (p q : List ℕ) (e : EndedAs p q) where
   any_alike [] = refl
   any_alike (x ∷ ns) = rw (called_alike [] q p eight_alike x, any_alike ns)
 
-  turns_alike : turn_at q ≡ turn_at p
-  turns_alike = fun_ext (turn_at_ended p q e)
+  turns_alike : turn_of q ≡ turn_of p
+  turns_alike = fun_ext (turn_ended p q e)
 
-  casts_alike : cast_turn_at q ≡ cast_turn_at p
-  casts_alike = fun_ext (cast_at_ended p q e)
+  casts_alike : cast_turn_of q ≡ cast_turn_of p
+  casts_alike = fun_ext (cast_turn_ended p q e)
 
   -- box, answer, the reply's length and every byte of the area
   pub ended_tcp : (b : DisplayBox) (l : ℕ) (area : List ℕ) → step b (tcp l q area) ≡ step b (tcp l p area)
   ended_tcp b l area = by_link_lem b l q area ∙ alike ∙ sym (by_link_lem b l p area)
     where
-      alike : by_link b l area (by_tcp (names b) l q) (to_nobody q) (turn_at q) ≡ by_link b l area (by_tcp (names b) l p) (to_nobody p) (turn_at p)
+      alike : by_link b l area (by_tcp (names b) l q) (to_nobody q) (turn_of q) ≡ by_link b l area (by_tcp (names b) l p) (to_nobody p) (turn_of p)
       alike =
-          ap (λ (n : ℕ). by_link b l area n (to_nobody q) (turn_at q)) (target_alike (names b) q p eight_alike l)
-          ∙ ap (λ (a : Answer). by_link b l area (by_tcp (names b) l p) a (turn_at q)) nobody_alike
+          ap (λ (n : ℕ). by_link b l area n (to_nobody q) (turn_of q)) (target_alike (names b) q p eight_alike l)
+          ∙ ap (λ (a : Answer). by_link b l area (by_tcp (names b) l p) a (turn_of q)) nobody_alike
           ∙ ap (by_link b l area (by_tcp (names b) l p) (to_nobody p)) turns_alike
 
   pub ended_udp : (b : DisplayBox) → step b (udp q) ≡ step b (udp p)
   ended_udp b = by_call_lem b q ∙ alike ∙ sym (by_call_lem b p)
     where
-      alike : by_call b (is_called q) (any_called q (names b)) (to_nobody q) (cast_of q) (cast_turn_at q) ≡ by_call b (is_called p) (any_called p (names b)) (to_nobody p) (cast_of p) (cast_turn_at p)
+      alike : by_call b (is_called q) (any_called q (names b)) (to_nobody q) (answer_of (cast_of q)) (cast_turn_of q) ≡ by_call b (is_called p) (any_called p (names b)) (to_nobody p) (answer_of (cast_of p)) (cast_turn_of p)
       alike =
-          ap (λ (f : Name → Bool). by_call b f (any_called q (names b)) (to_nobody q) (cast_of q) (cast_turn_at q)) (fun_ext (called_alike [] q p eight_alike))
-          ∙ ap (λ (c : Bool). by_call b (is_called p) c (to_nobody q) (cast_of q) (cast_turn_at q)) (any_alike (names b))
-          ∙ ap (λ (a : Answer). by_call b (is_called p) (any_called p (names b)) a (cast_of q) (cast_turn_at q)) nobody_alike
-          ∙ ap (λ (x : Heard). by_call b (is_called p) (any_called p (names b)) (to_nobody p) x (cast_turn_at q)) (cast_ended p q e)
-          ∙ ap (by_call b (is_called p) (any_called p (names b)) (to_nobody p) (cast_of p)) casts_alike
+          ap (λ (f : Name → Bool). by_call b f (any_called q (names b)) (to_nobody q) (answer_of (cast_of q)) (cast_turn_of q)) (fun_ext (called_alike [] q p eight_alike))
+          ∙ ap (λ (c : Bool). by_call b (is_called p) c (to_nobody q) (answer_of (cast_of q)) (cast_turn_of q)) (any_alike (names b))
+          ∙ ap (λ (a : Answer). by_call b (is_called p) (any_called p (names b)) a (answer_of (cast_of q)) (cast_turn_of q)) nobody_alike
+          ∙ ap (λ (x : Heard). by_call b (is_called p) (any_called p (names b)) (to_nobody p) (answer_of x) (cast_turn_of q)) (cast_ended p q e)
+          ∙ ap (by_call b (is_called p) (any_called p (names b)) (to_nobody p) (answer_of (cast_of p))) casts_alike

@@ -11,10 +11,7 @@ use Rattle.laws.proofs.Conditions.{choose, false_true}
 use Rattle.terms.specs.Answers.{partNumber, number_of}
 use Rattle.terms.specs.declared.Part.TheVariants.{Request, Item, TooLong, NotMatching, Count, Checksum}
 use Rattle.terms.specs.declared.Envelope.TheVariants.{Good, Wrong}
-use Rattle.terms.specs.declared.Answer.{Answer}
-use Rattle.terms.specs.declared.Answer.TheVariants.{Done, WrongLength, NotForUs, LineFull}
-use Rattle.turns.specs.Turns.{Turn, turn_with}
-use Rattle.panels.specs.Waits.{is_busy, has_room}
+use Rattle.terms.specs.declared.Answer.TheVariants.{WrongLength, NotForUs}
 use Rattle.panels.specs.declared.WRecord.{WRecord}
 use Rattle.panels.specs.declared.KRecord.{KRecord}
 use Rattle.panels.specs.Valid.{ok_input}
@@ -32,15 +29,10 @@ use Rattle.rs232c_asks.specs.declared.Heard as serialHeard
 use Rattle.rs232c_asks.specs.declared.Heard.TheVariants as serialIs
 use Rattle.sdcp_asks.specs.Asks as packetAsks
 use Rattle.sdcp.specs.Replies as packets
-use Rattle.sdcp.specs.Busy as packetsAt
-use Rattle.sdcp.specs.declared.Reply.TheVariants.{Ng, Ok}
-use Rattle.vmc.specs.Orders.{says_of}
-use Rattle.settling.specs.Settling.{may_wait, settled, dropped, obeyed}
-use Rattle.settling.specs.declared.Standing.{Standing}
 use Rattle.sdcp_asks.specs.declared.Heard as packetHeard
 use Rattle.sdcp_asks.specs.declared.Heard.TheVariants as packetIs
 use Rattle.kjw.specs.Replies as frames
-use Rattle.steps.specs.Step.{checks, cast_answer}
+use Rattle.steps.specs.Step.{checks}
 use Rattle.kjw_asks.specs.Asks as frameAsks
 use Rattle.kjw_sets.specs.Words.{switches, scenes}
 use Rattle.kjw_sets.specs.Sets as frameSets
@@ -78,53 +70,49 @@ serial_unclear (serialIs.NotUnderstood s) = true
 serial_unclear (serialIs.Understood s o) = false
 
 -- "Under 6 bytes: 3. First byte not 02h, destination not 01h, or source outside 41h to 7Fh: 4.", then document 02, §8, "13 byte count, 14 checksum",
--- §9, "16 busy on RS-232C, after 14 and before 6", and 6 where the command is not understood
-abbrev pub serial_conditions : Bool → List ℕ → List Bool
-serial_conditions busy m =
-    ltb (length m) 6 ∷ serialAsks.is_foreign m ∷ false ∷ false ∷ false ∷ false ∷ serialAsks.count_wrong m ∷ serialAsks.sum_wrong m ∷ false ∷ busy
+-- and 6 where the command is not understood
+abbrev pub serial_conditions : List ℕ → List Bool
+serial_conditions m =
+    ltb (length m) 6 ∷ serialAsks.is_foreign m ∷ false ∷ false ∷ false ∷ false ∷ serialAsks.count_wrong m ∷ serialAsks.sum_wrong m ∷ false
     ∷ serial_unclear (serialAsks.heard_of m) ∷ []
 
-abbrev serial_number : Bool → serialHeard.Heard → ℕ
-serial_number busy (serialIs.Refused a) = number_of a
-serial_number busy (serialIs.Broken s p) = partNumber p
-serial_number busy (serialIs.NotUnderstood s) = cond busy 16 6
-serial_number busy (serialIs.Understood s o) = cond busy 16 0
+abbrev serial_number : serialHeard.Heard → ℕ
+serial_number (serialIs.Refused a) = number_of a
+serial_number (serialIs.Broken s p) = partNumber p
+serial_number (serialIs.NotUnderstood s) = 6
+serial_number (serialIs.Understood s o) = 0
 
-serial_number_lem : (busy : Bool) (h : serialHeard.Heard) → serialEnvelopes.Judged h → serial_number busy h ≡ cond busy 16 (cond (serial_unclear h) 6 0)
-serial_number_lem busy (serialIs.Refused a) j = absurd j
-serial_number_lem busy (serialIs.Broken s p) j = absurd j
-serial_number_lem busy (serialIs.NotUnderstood s) j = refl
-serial_number_lem busy (serialIs.Understood s o) j = refl
+serial_number_lem : (h : serialHeard.Heard) → serialEnvelopes.Judged h → serial_number h ≡ cond (serial_unclear h) 6 0
+serial_number_lem (serialIs.Refused a) j = absurd j
+serial_number_lem (serialIs.Broken s p) j = absurd j
+serial_number_lem (serialIs.NotUnderstood s) j = refl
+serial_number_lem (serialIs.Understood s o) j = refl
 
 -- the ladder of what is heard of a frame, by its conditions
 abbrev serial_rungs : Bool → Bool → Bool → Bool → ℕ → ℕ → serialHeard.Heard → serialHeard.Heard
 serial_rungs a b c d s at h = cond a (serialIs.Refused WrongLength) (cond b (serialIs.Refused NotForUs) (serialAsks.unless_wrong s (cond c (Wrong Count) (cond d (Wrong (Checksum at)) Good)) h))
 
-serial_heard : (busy : Bool) (m : List ℕ) → serial_number busy (serialAsks.heard_of m) ≡ first_of own_checks (serial_conditions busy m)
+serial_heard : (m : List ℕ) → serial_number (serialAsks.heard_of m) ≡ first_of own_checks (serial_conditions m)
 unfolding serialAsks.heard_of serialAsks.envelope_of
-serial_heard busy m = go (ltb (length m) 6) (serialAsks.is_foreign m) (serialAsks.count_wrong m) (serialAsks.sum_wrong m) (serialAsks.source_of m) (length m - 1) _ (serialEnvelopes.command_judged _ _ _)
+serial_heard m = go (ltb (length m) 6) (serialAsks.is_foreign m) (serialAsks.count_wrong m) (serialAsks.sum_wrong m) (serialAsks.source_of m) (length m - 1) _ (serialEnvelopes.command_judged _ _ _)
   where
-    go : (a b c d : Bool) (s at : ℕ) (h : serialHeard.Heard) → serialEnvelopes.Judged h → serial_number busy (serial_rungs a b c d s at h) ≡ first_of own_checks (a ∷ b ∷ false ∷ false ∷ false ∷ false ∷ c ∷ d ∷ false ∷ busy ∷ serial_unclear (serial_rungs a b c d s at h) ∷ [])
+    go : (a b c d : Bool) (s at : ℕ) (h : serialHeard.Heard) → serialEnvelopes.Judged h → serial_number (serial_rungs a b c d s at h) ≡ first_of own_checks (a ∷ b ∷ false ∷ false ∷ false ∷ false ∷ c ∷ d ∷ false ∷ serial_unclear (serial_rungs a b c d s at h) ∷ [])
     go true b c d s at h j = refl
     go false true c d s at h j = refl
     go false false true d s at h j = refl
     go false false false true s at h j = refl
-    go false false false false s at h j = serial_number_lem busy h j
+    go false false false false s at h j = serial_number_lem h j
 
-serial_turned : (busy : Bool) (h : serialHeard.Heard) (vs : List ℕ) (w : WRecord) → number_of (cond busy (serial.while_busy h w) (serial.turned h vs w)).answer ≡ serial_number busy h
-unfolding serial.turned serial.while_busy
-serial_turned true (serialIs.Refused a) vs w = refl
-serial_turned true (serialIs.Broken s p) vs w = refl
-serial_turned true (serialIs.NotUnderstood s) vs w = refl
-serial_turned true (serialIs.Understood s o) vs w = refl
-serial_turned false (serialIs.Refused a) vs w = refl
-serial_turned false (serialIs.Broken s p) vs w = refl
-serial_turned false (serialIs.NotUnderstood s) vs w = refl
-serial_turned false (serialIs.Understood s o) vs w = refl
+serial_turned : (h : serialHeard.Heard) (vs : List ℕ) (w : WRecord) → number_of (serial.turned h vs w).answer ≡ serial_number h
+unfolding serial.turned
+serial_turned (serialIs.Refused a) vs w = refl
+serial_turned (serialIs.Broken s p) vs w = refl
+serial_turned (serialIs.NotUnderstood s) vs w = refl
+serial_turned (serialIs.Understood s o) vs w = refl
 
--- the number of the answer to a frame, busy or not
-pub serial_answered : (busy : Bool) (m : List ℕ) (w : WRecord) → number_of (serial.turn_at busy m w).answer ≡ first_of own_checks (serial_conditions busy m)
-serial_answered busy m w = serial_turned busy (serialAsks.heard_of m) (serialAsks.values_of m) w ∙ serial_heard busy m
+-- the number of the answer to a frame
+pub serial_answered : (m : List ℕ) (w : WRecord) → number_of (serial.turn_of m w).answer ≡ first_of own_checks (serial_conditions m)
+serial_answered m w = serial_turned (serialAsks.heard_of m) (serialAsks.values_of m) w ∙ serial_heard m
 
 -- condition 6 in words of what was heard; past the envelope nothing is refused or broken, so without it an order is understood
 pub serial_unclear_lem : (m : List ℕ) → serial_unclear (serialAsks.heard_of m) ≡ true → (s : ℕ) × (serialAsks.heard_of m ≡ serialIs.NotUnderstood s)
@@ -154,19 +142,12 @@ packet_unclear (packetIs.Broken p) = false
 packet_unclear packetIs.NotUnderstood = true
 packet_unclear (packetIs.Understood o) = false
 
--- document 02, §9: what was understood is taken by nobody
-abbrev pub packet_full : (wordOrder.Order → Bool) → packetHeard.Heard → Bool
-packet_full took (packetIs.Refused a) = false
-packet_full took (packetIs.Broken p) = false
-packet_full took packetIs.NotUnderstood = false
-packet_full took (packetIs.Understood o) = not (took o)
-
 -- "Under 13 bytes: 3. Wrong version, category or community, or no panel addressed: 4.", then document 02, §8, "9 request, 10 item, 11 over 499, 12 not
--- matching", 8 where a status is asked for that may not be, 6 where the words are not understood, and §9, "15 line full, after 6"
-abbrev pub packet_conditions : Bool → Bool → (wordOrder.Order → Bool) → List ℕ → List Bool
-packet_conditions nobody asked took m =
+-- matching", 8 where a status is asked for that may not be, and 6 where the words are not understood
+abbrev pub packet_conditions : Bool → Bool → List ℕ → List Bool
+packet_conditions nobody asked m =
     ltb (length m) 13 ∷ (not (packetAsks.is_ours m) || nobody) ∷ packetAsks.request_wrong m ∷ packetAsks.item_wrong m ∷ packetAsks.too_long m
-    ∷ packetAsks.not_matching m ∷ false ∷ false ∷ asked ∷ false ∷ packet_unclear (packetAsks.heard_of m) ∷ packet_full took (packetAsks.heard_of m) ∷ []
+    ∷ packetAsks.not_matching m ∷ false ∷ false ∷ asked ∷ packet_unclear (packetAsks.heard_of m) ∷ []
 
 abbrev PacketJudged : packetHeard.Heard → Type 0
 PacketJudged (packetIs.Refused a) = ⊥
@@ -174,17 +155,13 @@ PacketJudged (packetIs.Broken p) = ⊥
 PacketJudged packetIs.NotUnderstood = Unit {0}
 PacketJudged (packetIs.Understood o) = Unit {0}
 
-packet_number : (asked : Bool) (took : wordOrder.Order → Bool) (h : packetHeard.Heard) → PacketJudged h → number_of (cast_answer took (packetAsks.unless_status asked h)) ≡ cond asked 8 (cond (packet_unclear h) 6 (cond (packet_full took h) 15 0))
-packet_number asked took (packetIs.Refused a) j = absurd j
-packet_number asked took (packetIs.Broken p) j = absurd j
-packet_number true took packetIs.NotUnderstood j = refl
-packet_number false took packetIs.NotUnderstood j = refl
-packet_number true took (packetIs.Understood o) j = refl
-packet_number false took (packetIs.Understood o) j = go (took o)
-  where
-    go : (t : Bool) → number_of (cond t Done LineFull) ≡ cond (not t) 15 0
-    go true = refl
-    go false = refl
+packet_number : (asked : Bool) (h : packetHeard.Heard) → PacketJudged h → number_of (packets.answer_of (packetAsks.unless_status asked h)) ≡ cond asked 8 (cond (packet_unclear h) 6 0)
+packet_number asked (packetIs.Refused a) j = absurd j
+packet_number asked (packetIs.Broken p) j = absurd j
+packet_number true packetIs.NotUnderstood j = refl
+packet_number false packetIs.NotUnderstood j = refl
+packet_number true (packetIs.Understood o) j = refl
+packet_number false (packetIs.Understood o) j = refl
 
 words_judged : (x : Words) → PacketJudged (packetAsks.in_words x)
 words_judged (UnderstoodWords o) = tt
@@ -197,43 +174,20 @@ packet_rungs a b q i l n h =
     (packetAsks.unless_wrong (cond q (Wrong Request) (cond i (Wrong Item) (cond l (Wrong TooLong) (cond n (Wrong NotMatching) Good)))) h))
 
 -- the number of the answer to a packet, whatever the panel, and whether or not a status is refused
-pub packet_answered : (m : List ℕ) (asked : Bool) (took : wordOrder.Order → Bool) → number_of (cast_answer took (packetAsks.unless_status asked (packetAsks.heard_of m))) ≡ first_of own_checks (packet_conditions false asked took m)
+pub packet_answered : (m : List ℕ) (asked : Bool) → number_of (packets.answer_of (packetAsks.unless_status asked (packetAsks.heard_of m))) ≡ first_of own_checks (packet_conditions false asked m)
 unfolding packetAsks.heard_of packetAsks.envelope_of
-packet_answered m asked took =
+packet_answered m asked =
     go (ltb (length m) 13) (not (packetAsks.is_ours m)) (packetAsks.request_wrong m) (packetAsks.item_wrong m) (packetAsks.too_long m) (packetAsks.not_matching m) _
     (words_judged (read_data (packetAsks.data_of m)))
   where
-    go : (a b q i l n : Bool) (h : packetHeard.Heard) → PacketJudged h → number_of (cast_answer took (packetAsks.unless_status asked (packet_rungs a b q i l n h))) ≡ first_of own_checks (a ∷ (b || false) ∷ q ∷ i ∷ l ∷ n ∷ false ∷ false ∷ asked ∷ false ∷ packet_unclear (packet_rungs a b q i l n h) ∷ packet_full took (packet_rungs a b q i l n h) ∷ [])
+    go : (a b q i l n : Bool) (h : packetHeard.Heard) → PacketJudged h → number_of (packets.answer_of (packetAsks.unless_status asked (packet_rungs a b q i l n h))) ≡ first_of own_checks (a ∷ (b || false) ∷ q ∷ i ∷ l ∷ n ∷ false ∷ false ∷ asked ∷ packet_unclear (packet_rungs a b q i l n h) ∷ [])
     go true b q i l n h j = refl
     go false true q i l n h j = refl
     go false false true i l n h j = refl
     go false false false true l n h j = refl
     go false false false false true n h j = refl
     go false false false false false true h j = refl
-    go false false false false false false h j = packet_number asked took h j
-
--- document 02, §9: what one panel answers to what was heard, busy or not
-pub at_answer : (m : List ℕ) (h : packetHeard.Heard) (s : Standing) → (packetsAt.turned_at m h s).answer ≡ cast_answer (λ (o : wordOrder.Order). not (dropped o s.line)) h
-unfolding packetsAt.turned_at packetsAt.while_busy packets.turned
-at_answer m h s = go h (is_busy s.line) refl
-  where
-    taken_or_not : (o : wordOrder.Order) (d : Bool) → (cond {A = Turn Standing} d (record { after = s; answer = LineFull; reply = packets.bytes_of m Ng }) (record { after = obeyed o s; answer = Done; reply = packets.bytes_of m (Ok (says_of o (settled s.w s.line))) })).answer ≡ cond (not d) Done LineFull
-    taken_or_not o true = refl
-    taken_or_not o false = refl
-
-    at_once : (a r : Bool) → ◌≡◌ {A = Answer} Done (cond (not ((a && false) && not r)) Done LineFull)
-    at_once true r = refl
-    at_once false r = refl
-
-    go : (h : packetHeard.Heard) (b : Bool) → is_busy s.line ≡ b → (cond b (packetsAt.while_busy m h s) (turn_with (packetsAt.with_record s) (packets.turned m h s.w))).answer ≡ cast_answer (λ (o : wordOrder.Order). not (dropped o s.line)) h
-    go (packetIs.Refused a) true b = refl
-    go (packetIs.Refused a) false b = refl
-    go (packetIs.Broken p) true b = refl
-    go (packetIs.Broken p) false b = refl
-    go packetIs.NotUnderstood true b = refl
-    go packetIs.NotUnderstood false b = refl
-    go (packetIs.Understood o) true b = taken_or_not o (dropped o s.line)
-    go (packetIs.Understood o) false b = rw b (at_once (may_wait o) (has_room s.line))
+    go false false false false false false h j = packet_number asked h j
 
 pub packet_unclear_lem : (m : List ℕ) → packet_unclear (packetAsks.heard_of m) ≡ true → packetAsks.heard_of m ≡ packetIs.NotUnderstood
 packet_unclear_lem m = go (packetAsks.heard_of m)
@@ -264,7 +218,7 @@ frame_unclear (frameIs.Understood o) = false
 -- "Other length: 3. Wrong `*S`, footer, or a type not C or E: 4. [..] All else: 6.": there is no envelope to be wrong
 abbrev pub frame_conditions : List ℕ → List Bool
 frame_conditions m =
-    not (eqb (length m) 24) ∷ not (frameAsks.is_ours m) ∷ false ∷ false ∷ false ∷ false ∷ false ∷ false ∷ false ∷ false
+    not (eqb (length m) 24) ∷ not (frameAsks.is_ours m) ∷ false ∷ false ∷ false ∷ false ∷ false ∷ false ∷ false
     ∷ frame_unclear (frameAsks.heard_of m) ∷ []
 
 abbrev frame_number : frameHeard.Heard → ℕ
@@ -347,7 +301,7 @@ frame_heard : (m : List ℕ) → frame_number (frameAsks.heard_of m) ≡ first_o
 unfolding frameAsks.heard_of
 frame_heard m = go (not (eqb (length m) 24)) (not (frameAsks.is_ours m)) _ (asks_judged m)
   where
-    go : (a b : Bool) (h : frameHeard.Heard) → FrameJudged h → frame_number (cond a (frameIs.Refused WrongLength) (cond b (frameIs.Refused NotForUs) h)) ≡ first_of own_checks (a ∷ b ∷ false ∷ false ∷ false ∷ false ∷ false ∷ false ∷ false ∷ false ∷ frame_unclear (cond a (frameIs.Refused WrongLength) (cond b (frameIs.Refused NotForUs) h)) ∷ [])
+    go : (a b : Bool) (h : frameHeard.Heard) → FrameJudged h → frame_number (cond a (frameIs.Refused WrongLength) (cond b (frameIs.Refused NotForUs) h)) ≡ first_of own_checks (a ∷ b ∷ false ∷ false ∷ false ∷ false ∷ false ∷ false ∷ false ∷ frame_unclear (cond a (frameIs.Refused WrongLength) (cond b (frameIs.Refused NotForUs) h)) ∷ [])
     go true b h j = refl
     go false true h j = refl
     go false false h j = frame_number_lem h j

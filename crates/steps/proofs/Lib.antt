@@ -7,17 +7,15 @@ pub mod Bench
 pub mod Checks
 pub mod Door
 pub mod Ended
-pub mod Exact
 pub mod Finding
 pub mod Judged
 pub mod Notices
-pub mod Notified
 pub mod Numbered
 pub mod Obeyed
 pub mod Only
-pub mod Opened
 pub mod Parts
 pub mod Placed
+pub mod Opened
 pub mod ReadBack
 pub mod Refusals
 pub mod Shapes
@@ -26,8 +24,5 @@ pub mod Standins
 pub mod Status
 pub mod Stays
 pub mod Turns
-pub mod Used
 pub mod Validity
-pub mod Waited
-pub mod WhileBusy
 pub mod Witness

@@ -1,24 +1,20 @@
 -- "each is given only when its stated condition holds": what an answer's number says of the box and the message, in words of the record and
 -- the bytes, and that no check before it applied. The answer is the number of the first condition that holds (`checked`).
-use Prim.Native.Nat.{ℕ, zero, suc, ◌-◌, ◌%◌, ◌<◌, ◌≤◌}
+use Prim.Native.Nat.{ℕ, zero, suc, ◌%◌, ◌<◌, ◌≤◌}
 use mathlib.Core.Path.{◌≡◌, refl, sym, ap, subst, ◌∙◌}
 use mathlib.Core.Bool.{Bool, true, false, not, cond, ◌&&◌, ◌||◌, or-true}
 use mathlib.Core.List.{List, [], ◌∷◌}
 use native.Mathlib.Omega.{arith}
 use lib.Dec.{eqb, ltb}
 use lib.ListN.{length, get_or}
-use borrow.Author.Tests.{eqb-true, eqb-false, eq-eqb, ltb-true, ltb-false, le-ltb, not-true, not-false, ne_eqb}
+use borrow.Author.Tests.{eqb-true, eqb-false, eq-eqb, ltb-true, ltb-false, not-true, not-false, ne_eqb}
 use Rattle.laws.specs.Lists.{listed}
 use Rattle.laws.proofs.Conditions.{and_first, and_second, false_true}
-use Rattle.laws.proofs.Runs.{some_at, none_of}
 use Rattle.terms.specs.Answers.{partNumber, number_of}
 use Rattle.terms.specs.declared.Part.{Part}
 use Rattle.terms.specs.declared.Part.TheVariants.{Request, Item, TooLong, NotMatching, Count, Checksum}
 use Rattle.terms.specs.declared.Envelope.TheVariants.{Good}
-use Rattle.panels.specs.Records.{family_w, family_k, past_end}
-use Rattle.panels.specs.Waits.{is_busy}
-use Rattle.panels.specs.declared.Panel.{Panel}
-use Rattle.settling.specs.Settling.{dropped}
+use Rattle.panels.specs.Records.{family_w, family_k}
 use Rattle.panels.specs.Valid.{valid}
 use Rattle.panels.specs.declared.DisplayBox.{DisplayBox}
 use Rattle.configure.specs.Configure.{asked, refusal, configured}
@@ -35,17 +31,15 @@ use Rattle.sdcp_asks.specs.Asks as packetAsks
 use Rattle.sdcp_asks.proofs.Envelopes as packetEnvelopes
 use Rattle.sdcp_asks.proofs.Cast.{cast_plain}
 use Rattle.vmc_asks.specs.declared.Order as wordOrder
-use Rattle.sdcp_asks.specs.declared.Heard as packetHeard
 use Rattle.sdcp_asks.specs.declared.Heard.TheVariants as packetIs
-use Rattle.steps.specs.Messages.{Message, rs232c, kjw, tcp, udp, notice, names}
-use Rattle.steps.specs.Addressing.{target, addressed, any_called}
-use Rattle.steps.specs.Step.{checks, panel_at, any_takes, step}
-use Rattle.steps.proofs.Door.{Lends, by_rs232c, by_kjw, by_tcp_lem, uncalled, called_opens}
-use Rattle.steps.proofs.Turns.{reaches_inside}
+use Rattle.steps.specs.Messages.{Message, rs232c, kjw, tcp, udp, Name, nobody, names}
+use Rattle.steps.specs.Addressing.{target, is_called, addressed, any_called}
+use Rattle.steps.specs.Step.{checks, panel_at, step}
+use Rattle.steps.proofs.Door.{Lends, by_rs232c, by_kjw, by_tcp_lem}
 use Rattle.steps.proofs.Refusals.{none_called, no_target}
 use Rattle.steps.proofs.Stays.{neither}
-use Rattle.steps.proofs.Judged.{first_of, packet_full, serial_unclear_lem, serial_clear, packet_unclear_lem, packet_clear, frame_unclear_lem, frame_clear}
-use Rattle.steps.proofs.Checks.{has_panel, takes_at, conditions, checked}
+use Rattle.steps.proofs.Judged.{first_of, serial_unclear_lem, serial_clear, packet_unclear_lem, packet_clear, frame_unclear_lem, frame_clear}
+use Rattle.steps.proofs.Checks.{has_panel, conditions, checked}
 use Rattle.steps.proofs.Parts.{Broken, Told, told}
 
 -- ---- the stated conditions
@@ -60,7 +54,6 @@ family_of (rs232c l m area) = family_w
 family_of (kjw l m area) = family_k
 family_of (tcp l m area) = family_w
 family_of (udp m) = family_w
-family_of (notice t l) = family_w
 
 -- 2: "no panel with that link number, or it is of the other family"; a box that breaks the rules "is answered as a box of no panels"
 pub data Missing (b : DisplayBox) (family : ℕ) : ℕ → Type 0 where
@@ -72,11 +65,10 @@ pub data Missing (b : DisplayBox) (family : ℕ) : ℕ → Type 0 where
 pub data NoPanel (b : DisplayBox) : Message → Type 0 where
   no_panel : {l : ℕ} {area : List ℕ} {m : Message} → Lends l area m → 512 ≤ length area → Missing b (family_of m) l → NoPanel b m
 
--- neither 1 nor 2: room for a reply, and a panel of the way's family on the link of a box that keeps the rules; "UDP skips 1 and 2.", and a notice has no area, and 17 in the place of 2
+-- neither 1 nor 2: room for a reply, and a panel of the way's family on the link of a box that keeps the rules; "UDP skips 1 and 2."
 pub data LetIn (b : DisplayBox) : Message → Type 0 where
   on_link_holds : {i : ℕ} {area : List ℕ} {m : Message} → Lends (suc i) area m → 512 ≤ length area → valid b ≡ true → i < b.count → (panel_at i b).family ≡ family_of m → LetIn b m
   skipped : {m : List ℕ} → LetIn b (udp m)
-  by_notice : {t : Bool} {l : ℕ} → LetIn b (notice t l)
 
 -- 3: "too short to be a message, or wrong fixed length"
 abbrev pub BadLength : Message → Type 0
@@ -84,7 +76,6 @@ BadLength (rs232c l m area) = length m < 6
 BadLength (kjw l m area) = length m ≡ 24 → ⊥
 BadLength (tcp l m area) = length m < 13
 BadLength (udp m) = length m < 13
-BadLength (notice t l) = ⊥
 
 -- 4: "not for us", by SDCP "Wrong version, category or community, or no panel addressed"
 pub data NotOurs (b : DisplayBox) (x : Message) (m : List ℕ) : Type 0 where
@@ -96,7 +87,6 @@ Foreign b (rs232c l m area) = serialAsks.is_foreign m ≡ true
 Foreign b (kjw l m area) = frameAsks.is_ours m ≡ false
 Foreign b (tcp l m area) = NotOurs b (tcp l m area) m
 Foreign b (udp m) = NotOurs b (udp m) m
-Foreign b (notice t l) = ⊥
 
 -- document 02, §8: an envelope with no part that is wrong; KJW has none
 abbrev pub Whole : Message → Type 0
@@ -104,7 +94,6 @@ Whole (rs232c l m area) = serialEnvelopes.Whole m
 Whole (kjw l m area) = Unit {0}
 Whole (tcp l m area) = packetEnvelopes.Whole m
 Whole (udp m) = packetEnvelopes.Whole m
-Whole (notice t l) = Unit {0}
 
 -- 8: document 02, §5, "came by UDP, and the trimmed data is STATget alone or begins with STATget and a space"
 abbrev pub Asking : Message → Type 0
@@ -112,15 +101,6 @@ Asking (rs232c l m area) = ⊥
 Asking (kjw l m area) = ⊥
 Asking (tcp l m area) = ⊥
 Asking (udp m) = asks_status (packetAsks.data_of m) ≡ true
-Asking (notice t l) = ⊥
-
--- 16: document 02, §9, "busy on RS-232C": the panel of the link is busy
-abbrev pub Marked : DisplayBox → Message → Type 0
-Marked b (rs232c l m area) = is_busy (panel_at (l - 1) b).line ≡ true
-Marked b (kjw l m area) = ⊥
-Marked b (tcp l m area) = ⊥
-Marked b (udp m) = ⊥
-Marked b (notice t l) = ⊥
 
 -- 6: "contents not understood"
 abbrev pub Unclear : Message → Type 0
@@ -128,34 +108,13 @@ Unclear (rs232c l m area) = (s : ℕ) × (serialAsks.heard_of m ≡ serialIs.Not
 Unclear (kjw l m area) = frameAsks.heard_of m ≡ frameIs.NotUnderstood
 Unclear (tcp l m area) = packetAsks.heard_of m ≡ packetIs.NotUnderstood
 Unclear (udp m) = packetAsks.cast_of m ≡ packetIs.NotUnderstood
-Unclear (notice t l) = ⊥
 
--- 15: "line full": an order was understood, and every panel that it is addressed to let none wait any more
-abbrev pub NoneTook : DisplayBox → Message → wordOrder.Order → Type 0
-NoneTook b m o = (i : ℕ) → addressed (names b) m i ≡ true → dropped o (panel_at i b).line ≡ true
-
-abbrev pub Full : DisplayBox → Message → Type 0
-Full b (rs232c l m area) = ⊥
-Full b (kjw l m area) = ⊥
-Full b (tcp l m area) = (o : wordOrder.Order) × (packetAsks.heard_of m ≡ packetIs.Understood o) × NoneTook b (tcp l m area) o
-Full b (udp m) = (o : wordOrder.Order) × (packetAsks.cast_of m ≡ packetIs.Understood o) × NoneTook b (udp m) o
-Full b (notice t l) = ⊥
-
--- 17: "a busy notice for a link that is no W panel"
-abbrev pub NoW : DisplayBox → Message → Type 0
-NoW b (rs232c l m area) = ⊥
-NoW b (kjw l m area) = ⊥
-NoW b (tcp l m area) = ⊥
-NoW b (udp m) = ⊥
-NoW b (notice t l) = Missing b family_w l
-
--- 0: an order was understood; a notice has none
+-- 0: an order was understood
 abbrev pub Clear : Message → Type 0
 Clear (rs232c l m area) = (s : ℕ) × (o : serialOrder.Order) × (serialAsks.heard_of m ≡ serialIs.Understood s o)
 Clear (kjw l m area) = (o : frameOrder.Order) × (frameAsks.heard_of m ≡ frameIs.Understood o)
 Clear (tcp l m area) = (o : wordOrder.Order) × (packetAsks.heard_of m ≡ packetIs.Understood o)
 Clear (udp m) = (o : wordOrder.Order) × (packetAsks.cast_of m ≡ packetIs.Understood o)
-Clear (notice t l) = Unit {0}
 
 -- ---- the first that holds
 
@@ -227,6 +186,12 @@ none (n ∷ ns) (false ∷ cs) s h e (suc j) = none ns cs (alone n ns s).others 
 
 -- ---- a condition says what it states
 
+pub uncalled : (m : List ℕ) (ns : List Name) → any_called m ns ≡ false → (i : ℕ) → is_called m (get_or ns i nobody) ≡ false
+unfolding is_called
+uncalled m [] n i = refl
+uncalled m (x ∷ ns) n zero = (neither (is_called m x) (any_called m ns) n).0
+uncalled m (x ∷ ns) n (suc i) = uncalled m ns (neither (is_called m x) (any_called m ns) n).1 i
+
 module _ (b : DisplayBox) where
   abbrev at : Message → ℕ → Bool
   at m k = get_or (conditions b m) k false
@@ -236,7 +201,6 @@ module _ (b : DisplayBox) where
   small (kjw l m area) e = under_512 (by_kjw m) (ltb-true (length area) 512 e)
   small (tcp l m area) e = under_512 (by_tcp_lem m) (ltb-true (length area) 512 e)
   small (udp m) e = absurd (false_true e)
-  small (notice t l) e = absurd (false_true e)
 
   missing : (family l : ℕ) → not (has_panel b l family) ≡ true → Missing b family l
   missing family zero e = link_zero
@@ -252,26 +216,6 @@ module _ (b : DisplayBox) where
   no_panel_here (kjw l m area) a e = no_panel (by_kjw m) (ltb-false (length area) 512 a) (missing family_k l e)
   no_panel_here (tcp l m area) a e = no_panel (by_tcp_lem m) (ltb-false (length area) 512 a) (missing family_w l e)
   no_panel_here (udp m) a e = absurd (false_true e)
-  no_panel_here (notice t l) a e = absurd (false_true e)
-
-  missing_none : (family l : ℕ) → Missing b family l → has_panel b l family ≡ false
-  missing_none family _ link_zero = refl
-  missing_none family (suc i) (above_count h) = go (valid b) (eqb (panel_at i b).family family)
-    where
-      go : (v f : Bool) → (v && ltb i b.count && f) ≡ false
-      go true f = rw (le-ltb i b.count h)
-      go false f = refl
-  missing_none family (suc i) (other_family n) = go (valid b) (ltb i b.count)
-    where
-      go : (v c : Bool) → (v && c && eqb (panel_at i b).family family) ≡ false
-      go true true = ne_eqb (panel_at i b).family family n
-      go true false = refl
-      go false c = refl
-  missing_none family l (breaks_rules v) = go l
-    where
-      go : (l : ℕ) → has_panel b l family ≡ false
-      go zero = refl
-      go (suc i) = rw v
 
   there : {area : List ℕ} {m : Message} (l : ℕ) → Lends l area m → ltb (length area) 512 ≡ false → not (has_panel b l (family_of m)) ≡ false → LetIn b m
   there zero k a e = absurd (false_true (sym e))
@@ -287,21 +231,18 @@ module _ (b : DisplayBox) where
   let_in (kjw l m area) a e = there l (by_kjw m) a e
   let_in (tcp l m area) a e = there l (by_tcp_lem m) a e
   let_in (udp m) a e = skipped
-  let_in (notice t l) a e = by_notice
 
   bad_length : (m : Message) → at m 2 ≡ true → BadLength m
   bad_length (rs232c l m area) e = ltb-true (length m) 6 e
   bad_length (kjw l m area) e = eqb-false (length m) 24 (not-true (eqb (length m) 24) e)
   bad_length (tcp l m area) e = ltb-true (length m) 13 e
   bad_length (udp m) e = ltb-true (length m) 13 e
-  bad_length (notice t l) e = false_true e
 
   long : (m : Message) → at m 2 ≡ false → BadLength m → ⊥
   long (rs232c l m area) e h = let k = ltb-false (length m) 6 e in omega arith
   long (kjw l m area) e h = h (eqb-true (length m) 24 (not-false (eqb (length m) 24) e))
   long (tcp l m area) e h = let k = ltb-false (length m) 13 e in omega arith
   long (udp m) e h = let k = ltb-false (length m) 13 e in omega arith
-  long (notice t l) e h = h
 
   -- a packet that is ours, and none of the panels is called
   untargeted : (l : ℕ) (m area : List ℕ) → eqb (target (names b) (tcp l m area)) 0 ≡ true → (i : ℕ) → addressed (names b) (tcp l m area) i ≡ false
@@ -329,7 +270,6 @@ module _ (b : DisplayBox) where
   foreign (kjw l m area) e = not-true (frameAsks.is_ours m) e
   foreign (tcp l m area) e = not_ours (tcp l m area) m (eqb (target (names b) (tcp l m area)) 0) (untargeted l m area) e
   foreign (udp m) e = not_ours (udp m) m (not (any_called m (names b))) (λ n. uncalled m (names b) (not-true (any_called m (names b)) n)) e
-  foreign (notice t l) e = false_true e
 
   for_us : (m : Message) → at m 3 ≡ false → Foreign b m → ⊥
   unfolding addressed
@@ -337,7 +277,6 @@ module _ (b : DisplayBox) where
   for_us (kjw l m area) e f = false_true (sym e ∙ ap not f)
   for_us (tcp l m area) e f = ours (eqb (target (names b) (tcp l m area)) 0) (targeted l m area) e f
   for_us (udp m) e f = ours (not (any_called m (names b))) (λ n. ap not (none_called m (names b) n)) e f
-  for_us (notice t l) e f = f
 
   -- conditions 4 to 9 are the parts of the envelope
   abbrev NoPart : Message → Type 0
@@ -356,141 +295,44 @@ module _ (b : DisplayBox) where
   whole (kjw l m area) n = tt
   whole (tcp l m area) n = packetEnvelopes.good_whole m (packet_good (tcp l m area) m refl refl refl refl n)
   whole (udp m) n = packetEnvelopes.good_whole m (packet_good (udp m) m refl refl refl refl n)
-  whole (notice t l) n = tt
 
   asking : (m : Message) → at m 10 ≡ true → Asking m
   asking (rs232c l m area) e = false_true e
   asking (kjw l m area) e = false_true e
   asking (tcp l m area) e = false_true e
   asking (udp m) e = e
-  asking (notice t l) e = false_true e
 
   not_asking : (m : Message) → at m 10 ≡ false → Asking m → ⊥
   not_asking (rs232c l m area) e f = f
   not_asking (kjw l m area) e f = f
   not_asking (tcp l m area) e f = f
   not_asking (udp m) e f = false_true (sym e ∙ f)
-  not_asking (notice t l) e f = f
 
-  marked : (m : Message) → at m 11 ≡ true → Marked b m
-  marked (rs232c l m area) e = e
-  marked (kjw l m area) e = false_true e
-  marked (tcp l m area) e = false_true e
-  marked (udp m) e = false_true e
-  marked (notice t l) e = false_true e
-
-  unmarked : (m : Message) → at m 11 ≡ false → Marked b m → ⊥
-  unmarked (rs232c l m area) e f = false_true (sym e ∙ f)
-  unmarked (kjw l m area) e f = f
-  unmarked (tcp l m area) e f = f
-  unmarked (udp m) e f = f
-  unmarked (notice t l) e f = f
-
-  unclear : (m : Message) → at m 10 ≡ false → at m 12 ≡ true → Unclear m
+  unclear : (m : Message) → at m 10 ≡ false → at m 11 ≡ true → Unclear m
   unclear (rs232c l m area) a e = serial_unclear_lem m e
   unclear (kjw l m area) a e = frame_unclear_lem m e
   unclear (tcp l m area) a e = packet_unclear_lem m e
   unclear (udp m) a e = cast_plain m a ∙ packet_unclear_lem m e
-  unclear (notice t l) a e = false_true e
 
   is_ours_holds : (m : List ℕ) (none : Bool) → (not (packetAsks.is_ours m) || none) ≡ false → packetAsks.is_ours m ≡ true
   is_ours_holds m none e = not-false (packetAsks.is_ours m) (neither (not (packetAsks.is_ours m)) none e).0
 
   clear : (m : Message) → ((j : ℕ) → at m j ≡ false) → Clear m
-  clear (rs232c l m area) n = serial_clear m (n 2) (n 3) (serial_good l m area (λ j h. n j)) (n 12)
-  clear (kjw l m area) n = frame_clear m (not-false (eqb (length m) 24) (n 2)) (not-false (frameAsks.is_ours m) (n 3)) (n 12)
-  clear (tcp l m area) n = packet_clear m (n 2) (is_ours_holds m (eqb (target (names b) (tcp l m area)) 0) (n 3)) (packet_good (tcp l m area) m refl refl refl refl (λ j h. n j)) (n 12)
+  clear (rs232c l m area) n = serial_clear m (n 2) (n 3) (serial_good l m area (λ j h. n j)) (n 11)
+  clear (kjw l m area) n = frame_clear m (not-false (eqb (length m) 24) (n 2)) (not-false (frameAsks.is_ours m) (n 3)) (n 11)
+  clear (tcp l m area) n = packet_clear m (n 2) (is_ours_holds m (eqb (target (names b) (tcp l m area)) 0) (n 3)) (packet_good (tcp l m area) m refl refl refl refl (λ j h. n j)) (n 11)
   clear (udp m) n =
-      let t = packet_clear m (n 2) (is_ours_holds m (not (any_called m (names b))) (n 3)) (packet_good (udp m) m refl refl refl refl (λ j h. n j)) (n 12) in
+      let t = packet_clear m (n 2) (is_ours_holds m (not (any_called m (names b))) (n 3)) (packet_good (udp m) m refl refl refl refl (λ j h. n j)) (n 11) in
       (t.0, cast_plain m (n 10) ∙ t.1)
-  clear (notice t l) n = tt
-
-  -- 15, by what was understood
-  packet_full_holds : (m : List ℕ) (took : wordOrder.Order → Bool) → packet_full took (packetAsks.heard_of m) ≡ true → (o : wordOrder.Order) × (packetAsks.heard_of m ≡ packetIs.Understood o) × (took o ≡ false)
-  packet_full_holds m took = go (packetAsks.heard_of m)
-    where
-      go : (h : packetHeard.Heard) → packet_full took h ≡ true → (o : wordOrder.Order) × (h ≡ packetIs.Understood o) × (took o ≡ false)
-      go (packetIs.Refused a) e = absurd (false_true e)
-      go (packetIs.Broken p) e = absurd (false_true e)
-      go packetIs.NotUnderstood e = absurd (false_true e)
-      go (packetIs.Understood o) e = (o, refl, not-true (took o) e)
-
-  -- the one panel that a packet by TCP is addressed to
-  target_is : (l : ℕ) (m area : List ℕ) (i : ℕ) → addressed (names b) (tcp l m area) i ≡ true → target (names b) (tcp l m area) - 1 ≡ i
-  unfolding addressed
-  target_is l m area i a = let q = eqb-true (target (names b) (tcp l m area)) (suc i) a in omega arith
-
-  is_target : (l : ℕ) (m area : List ℕ) → eqb (target (names b) (tcp l m area)) 0 ≡ false → addressed (names b) (tcp l m area) (target (names b) (tcp l m area) - 1) ≡ true
-  unfolding addressed
-  is_target l m area z =
-      let n = eqb-false (target (names b) (tcp l m area)) 0 z in
-      eq-eqb (target (names b) (tcp l m area)) (suc (target (names b) (tcp l m area) - 1)) (omega arith)
-
-  -- what no panel took, each that is called dropped
-  called_drops : (m : List ℕ) (o : wordOrder.Order) → any_takes (names b) b m o ≡ false → NoneTook b (udp m) o
-  called_drops m o n i a = go (dropped o (panel_at i b).line) refl
-    where
-      go : (d : Bool) → dropped o (panel_at i b).line ≡ d → d ≡ true
-      go true d = refl
-      go false d =
-          let h = reaches_inside (record { passes = called_opens (names b) m i a; meant = a }) in
-          absurd (false_true (sym n ∙ some_at (addressed (names b) (udp m)) (λ (p : Panel). not (dropped o p.line)) b.panels i past_end h a (ap not d)))
-
-  full : (m : Message) → at m 10 ≡ false → at m 13 ≡ true → Full b m
-  full (rs232c l m area) a e = false_true e
-  full (kjw l m area) a e = false_true e
-  full (tcp l m area) a e =
-      let t = packet_full_holds m (takes_at b (target (names b) (tcp l m area) - 1)) e in
-      let d = not-false (dropped t.0 (panel_at (target (names b) (tcp l m area) - 1) b).line) t.2 in
-      (t.0, t.1, λ i c. subst (λ (j : ℕ). dropped t.0 (panel_at j b).line ≡ true) (target_is l m area i c) d)
-  full (udp m) a e =
-      let t = packet_full_holds m (any_takes (names b) b m) e in
-      (t.0, cast_plain m a ∙ t.1, called_drops m t.0 t.2)
-  full (notice t l) a e = false_true e
-
-  not_full : (m : Message) → at m 3 ≡ false → at m 10 ≡ false → at m 13 ≡ false → Full b m → ⊥
-  not_full (rs232c l m area) c a e f = f
-  not_full (kjw l m area) c a e f = f
-  not_full (tcp l m area) c a e f =
-      let i = target (names b) (tcp l m area) - 1 in
-      let z = (neither (not (packetAsks.is_ours m)) (eqb (target (names b) (tcp l m area)) 0) c).1 in
-      let d = f.2 i (is_target l m area z) in
-      let n : packet_full (takes_at b i) (packetIs.Understood f.0) ≡ false = sym (ap (packet_full (takes_at b i)) f.1) ∙ e in
-      false_true (sym n ∙ ap (λ (x : Bool). not (not x)) d)
-  not_full (udp m) c a e f =
-      let n : packet_full (any_takes (names b) b m) (packetIs.Understood f.0) ≡ false = sym (ap (packet_full (any_takes (names b) b m)) (sym (cast_plain m a) ∙ f.1)) ∙ e in
-      let s = none_of (addressed (names b) (udp m)) (λ (p : Panel). not (dropped f.0 p.line)) b.panels past_end (λ i x. ap not (f.2 i x)) in
-      false_true (sym n ∙ ap not s)
-  not_full (notice t l) c a e f = f
-
-  no_w : (m : Message) → at m 14 ≡ true → NoW b m
-  no_w (rs232c l m area) e = false_true e
-  no_w (kjw l m area) e = false_true e
-  no_w (tcp l m area) e = false_true e
-  no_w (udp m) e = false_true e
-  no_w (notice t l) e = missing family_w l e
-
-  has_w : (m : Message) → at m 14 ≡ false → NoW b m → ⊥
-  has_w (rs232c l m area) e f = f
-  has_w (kjw l m area) e f = f
-  has_w (tcp l m area) e f = f
-  has_w (udp m) e f = f
-  has_w (notice t l) e f = false_true (sym e ∙ ap not (missing_none family_w l f))
 
   fired : (m : Message) (k : ℕ) → k < length checks → number_of (step b m).answer ≡ get_or checks k 0 → Fires (conditions b m) k
   fired m k h e = fires checks (conditions b m) k refl h (sym (checked b m) ∙ e)
 
-  -- each condition has its check
-  few_checked : (m : Message) → length (conditions b m) ≤ length checks
-  few_checked (rs232c l m area) = omega arith
-  few_checked (kjw l m area) = omega arith
-  few_checked (tcp l m area) = omega arith
-  few_checked (udp m) = omega arith
-  few_checked (notice t l) = omega arith
-
-  -- and each check its condition: the last is a notice's
-  pub each_checked : (t : Bool) (l : ℕ) → length (conditions b (notice t l)) ≡ length checks
-  each_checked t l = omega arith
+  each_checked : (m : Message) → length (conditions b m) ≤ length checks
+  each_checked (rs232c l m area) = omega arith
+  each_checked (kjw l m area) = omega arith
+  each_checked (tcp l m area) = omega arith
+  each_checked (udp m) = omega arith
 
 -- ---- a part's number among the checks
 
@@ -539,33 +381,17 @@ module _ (b : DisplayBox) (m : Message) where
       let h = behind 10 (omega arith) t in
       (h.0, h.1, h.2, whole b m (λ j i. t.none_before j i), asking b m t.holds)
 
-  pub only_16 : number_of (step b m).answer ≡ 16 → LetIn b m × (BadLength m → ⊥) × (Foreign b m → ⊥) × Whole m × (Asking m → ⊥) × Marked b m
-  only_16 e =
+  pub only_6 : number_of (step b m).answer ≡ 6 → LetIn b m × (BadLength m → ⊥) × (Foreign b m → ⊥) × Whole m × (Asking m → ⊥) × Unclear m
+  only_6 e =
       let t = fired b m 11 (omega arith) e in
       let h = behind 11 (omega arith) t in
-      (h.0, h.1, h.2, whole b m (λ j i. t.none_before j (omega arith)), not_asking b m (t.none_before 10 (omega arith)), marked b m t.holds)
-
-  pub only_6 : number_of (step b m).answer ≡ 6 → LetIn b m × (BadLength m → ⊥) × (Foreign b m → ⊥) × Whole m × (Asking m → ⊥) × Unclear m × (Marked b m → ⊥)
-  only_6 e =
-      let t = fired b m 12 (omega arith) e in
-      let h = behind 12 (omega arith) t in
       let a = t.none_before 10 (omega arith) in
-      (h.0, h.1, h.2, whole b m (λ j i. t.none_before j (omega arith)), not_asking b m a, unclear b m a t.holds, unmarked b m (t.none_before 11 (omega arith)))
+      (h.0, h.1, h.2, whole b m (λ j i. t.none_before j (omega arith)), not_asking b m a, unclear b m a t.holds)
 
-  pub only_15 : number_of (step b m).answer ≡ 15 → LetIn b m × (BadLength m → ⊥) × (Foreign b m → ⊥) × Whole m × (Asking m → ⊥) × Full b m
-  only_15 e =
-      let t = fired b m 13 (omega arith) e in
-      let h = behind 13 (omega arith) t in
-      let a = t.none_before 10 (omega arith) in
-      (h.0, h.1, h.2, whole b m (λ j i. t.none_before j (omega arith)), not_asking b m a, full b m a t.holds)
-
-  pub only_17 : number_of (step b m).answer ≡ 17 → NoW b m
-  only_17 e = no_w b m (fired b m 14 (omega arith) e).holds
-
-  pub only_0 : number_of (step b m).answer ≡ 0 → LetIn b m × (BadLength m → ⊥) × (Foreign b m → ⊥) × Whole m × (Asking m → ⊥) × Clear m × (Marked b m → ⊥) × (Full b m → ⊥) × (NoW b m → ⊥)
+  pub only_0 : number_of (step b m).answer ≡ 0 → LetIn b m × (BadLength m → ⊥) × (Foreign b m → ⊥) × Whole m × (Asking m → ⊥) × Clear m
   only_0 e =
-      let n = none checks (conditions b m) refl (few_checked b m) (sym (checked b m) ∙ e) in
-      (let_in b m (n 0) (n 1), long b m (n 2), for_us b m (n 3), whole b m (λ j h. n j), not_asking b m (n 10), clear b m n, unmarked b m (n 11), not_full b m (n 3) (n 10) (n 13), has_w b m (n 14))
+      let n = none checks (conditions b m) refl (each_checked b m) (sym (checked b m) ∙ e) in
+      (let_in b m (n 0) (n 1), long b m (n 2), for_us b m (n 3), whole b m (λ j h. n j), not_asking b m (n 10), clear b m n)
 
 -- ---- a configuration
 

@@ -1,6 +1,6 @@
 -- Document 02, §8: a wrong part that is told is the first that is wrong in the message's envelope, whatever the box, for the door tells none and
 -- each protocol tells the first.
-use Prim.Native.Nat.{ℕ, ◌-◌, ◌<◌}
+use Prim.Native.Nat.{ℕ, ◌<◌}
 use mathlib.Core.Path.{◌≡◌, sym, ap, subst, ◌∙◌}
 use mathlib.Core.Bool.{Bool, true, false, not, cond}
 use mathlib.Core.List.{List, [], ◌∷◌}
@@ -11,12 +11,11 @@ use Rattle.laws.proofs.Conditions.{choose}
 use Rattle.terms.specs.Answers.{number_of}
 use Rattle.terms.specs.declared.Part.{Part}
 use Rattle.terms.specs.declared.Answer.{Answer}
-use Rattle.terms.specs.declared.Answer.TheVariants.{Done, AreaTooSmall, NoSuchPanel, WrongLength, NotForUs, EnvelopeWrong, NotUnderstood, BadConfiguration, StatusByBroadcast, PartWrong, LineFull, Busy, NoWPanel}
+use Rattle.terms.specs.declared.Answer.TheVariants.{Done, AreaTooSmall, NoSuchPanel, WrongLength, NotForUs, EnvelopeWrong, NotUnderstood, BadConfiguration, StatusByBroadcast, PartWrong}
 use Rattle.terms.specs.declared.Envelope.TheVariants.{Wrong}
 use Rattle.terms.proofs.Answers.{part-late}
 use Rattle.turns.specs.Turns.{Turn}
 use Rattle.turns.proofs.Turns.{either}
-use Rattle.panels.specs.Waits.{is_busy}
 use Rattle.panels.specs.declared.WRecord.{WRecord}
 use Rattle.panels.specs.declared.KRecord.{KRecord}
 use Rattle.panels.specs.declared.DisplayBox.{DisplayBox}
@@ -28,27 +27,25 @@ use Rattle.rs232c.specs.Replies as serial
 use Rattle.kjw_asks.specs.Asks as frameAsks
 use Rattle.kjw.specs.Replies as frames
 use Rattle.vmc_asks.specs.Asks.{read_data, asks_status}
-use Rattle.vmc_asks.specs.declared.Order as wordOrder
 use Rattle.vmc_asks.specs.declared.Words.{Words}
 use Rattle.vmc_asks.specs.declared.Words.TheVariants.{Understood as UnderstoodWords, NotUnderstood as NotUnderstoodWords}
 use Rattle.sdcp_asks.specs.Asks as packetAsks
 use Rattle.sdcp_asks.specs.declared.Heard as packetHeard
 use Rattle.sdcp_asks.proofs.Cast.{unless_not}
 use Rattle.sdcp_asks.proofs.Envelopes as packetEnvelopes
-use Rattle.sdcp.specs.Busy as packetsAt
-use Rattle.settling.specs.declared.Standing.{Standing}
-use Rattle.steps.specs.Messages.{Message, rs232c, kjw, tcp, udp, notice, Name, names, on_link, is_w, is_k}
+use Rattle.sdcp.specs.Replies as packets
+use Rattle.sdcp.proofs.Refusals.{turned_answer}
+use Rattle.steps.specs.Messages.{Message, rs232c, kjw, tcp, udp, Name, names, on_link, is_w, is_k}
 use Rattle.steps.specs.Addressing.{target, any_called}
-use Rattle.steps.specs.Step.{if_open, to_nobody, door, turn, panel_at, cast_answer, any_takes, answer_to, Outcome, step}
-use Rattle.steps.proofs.Judged.{first_of, own_checks, frame_unclear, frame_answered, at_answer}
+use Rattle.steps.specs.Step.{if_open, to_nobody, door, turn, answer_to, Outcome, step}
+use Rattle.steps.proofs.Judged.{first_of, own_checks, frame_unclear, frame_answered}
 
--- 9 to 14: a part of the envelope that is wrong, and none before it; KJW has none, nor has a notice
+-- 9 to 14: a part of the envelope that is wrong, and none before it; KJW has none
 abbrev pub Broken : Message → Part → Type 0
 Broken (rs232c l m area) p = serialEnvelopes.FirstWrong m p
 Broken (kjw l m area) p = ⊥
 Broken (tcp l m area) p = packetEnvelopes.FirstWrong m p
 Broken (udp m) p = packetEnvelopes.FirstWrong m p
-Broken (notice t l) p = ⊥
 
 -- what an answer says of a message's envelope
 abbrev pub Told : Message → Answer → Type 0
@@ -61,9 +58,6 @@ Told m EnvelopeWrong = Unit {0}
 Told m NotUnderstood = Unit {0}
 Told m BadConfiguration = Unit {0}
 Told m StatusByBroadcast = Unit {0}
-Told m LineFull = Unit {0}
-Told m Busy = Unit {0}
-Told m NoWPanel = Unit {0}
 Told m (PartWrong p) = Broken m p
 
 -- ---- the door tells no part
@@ -83,7 +77,6 @@ door_told ns (tcp l m area) =
     open_told (tcp l m area) area (is_w (on_link ns l)) (cond (eqb (target ns (tcp l m area)) 0) (to_nobody m) Done)
     (choose (Told (tcp l m area)) (eqb (target ns (tcp l m area)) 0) (to_nobody m) Done (λ e. nobody_told (tcp l m area) m) (λ e. tt))
 door_told ns (udp m) = choose (Told (udp m)) (any_called m ns) Done (to_nobody m) (λ e. tt) (λ e. nobody_told (udp m) m)
-door_told ns (notice t l) = choose (Told (notice t l)) (is_w (on_link ns l)) Done NoWPanel (λ e. tt) (λ e. tt)
 
 -- ---- each protocol tells the first
 
@@ -100,34 +93,16 @@ serial_told x m vs w f =
     serialEnvelopes.by_rungs (λ (h : serialHeard.Heard). Told x (serial.turned h vs w).answer) m tt tt f
     (serial_judged x (serialAsks.command_of (serialAsks.source_of m) (serialAsks.code_of m) (serialAsks.data_of m)) vs w (serialEnvelopes.command_judged (serialAsks.source_of m) (serialAsks.code_of m) (serialAsks.data_of m)))
 
--- document 02, §9: a busy panel tells the same part
-busy_judged : (x : Message) (h : serialHeard.Heard) (w : WRecord) → serialEnvelopes.Judged h → Told x (serial.while_busy h w).answer
-unfolding serial.while_busy
-busy_judged x (serialIs.Refused a) w j = absurd j
-busy_judged x (serialIs.Broken s p) w j = absurd j
-busy_judged x (serialIs.NotUnderstood s) w j = tt
-busy_judged x (serialIs.Understood s o) w j = tt
+words_told : (x : Message) (asked : Bool) (y : Words) → Told x (packets.answer_of (packetAsks.unless_status asked (packetAsks.in_words y)))
+words_told x true (UnderstoodWords o) = tt
+words_told x false (UnderstoodWords o) = tt
+words_told x true NotUnderstoodWords = tt
+words_told x false NotUnderstoodWords = tt
 
-busy_told : (x : Message) (m : List ℕ) (w : WRecord) → ((p : Part) → serialAsks.envelope_of m ≡ Wrong p → Broken x p) → Told x (serial.while_busy (serialAsks.heard_of m) w).answer
-unfolding serial.while_busy
-busy_told x m w f =
-    serialEnvelopes.by_rungs (λ (h : serialHeard.Heard). Told x (serial.while_busy h w).answer) m tt tt f
-    (busy_judged x (serialAsks.command_of (serialAsks.source_of m) (serialAsks.code_of m) (serialAsks.data_of m)) w (serialEnvelopes.command_judged (serialAsks.source_of m) (serialAsks.code_of m) (serialAsks.data_of m)))
-
-serial_at : (busy : Bool) (x : Message) (m : List ℕ) (w : WRecord) → ((p : Part) → serialAsks.envelope_of m ≡ Wrong p → Broken x p) → Told x (serial.turn_at busy m w).answer
-serial_at true x m w f = busy_told x m w f
-serial_at false x m w f = serial_told x m (serialAsks.values_of m) w f
-
-words_told : (x : Message) (asked : Bool) (took : wordOrder.Order → Bool) (y : Words) → Told x (cast_answer took (packetAsks.unless_status asked (packetAsks.in_words y)))
-words_told x true took (UnderstoodWords o) = tt
-words_told x false took (UnderstoodWords o) = choose (Told x) (took o) Done LineFull (λ e. tt) (λ e. tt)
-words_told x true took NotUnderstoodWords = tt
-words_told x false took NotUnderstoodWords = tt
-
-packet_told : (x : Message) (m : List ℕ) (asked : Bool) (took : wordOrder.Order → Bool) → ((p : Part) → packetAsks.envelope_of m ≡ Wrong p → Broken x p) → Told x (cast_answer took (packetAsks.unless_status asked (packetAsks.heard_of m)))
-packet_told x m asked took f =
-    packetEnvelopes.by_rungs (λ (h : packetHeard.Heard). Told x (cast_answer took (packetAsks.unless_status asked h))) m tt tt (λ h. f)
-    (λ h. words_told x asked took (read_data (packetAsks.data_of m)))
+packet_told : (x : Message) (m : List ℕ) (asked : Bool) → ((p : Part) → packetAsks.envelope_of m ≡ Wrong p → Broken x p) → Told x (packets.answer_of (packetAsks.unless_status asked (packetAsks.heard_of m)))
+packet_told x m asked f =
+    packetEnvelopes.by_rungs (λ (h : packetHeard.Heard). Told x (packets.answer_of (packetAsks.unless_status asked h))) m tt tt (λ h. f)
+    (λ h. words_told x asked (read_data (packetAsks.data_of m)))
 
 -- an answer under 9 tells no part
 low_told : (x : Message) (a : Answer) → number_of a < 9 → Told x a
@@ -140,15 +115,12 @@ low_told x EnvelopeWrong l = tt
 low_told x NotUnderstood l = tt
 low_told x BadConfiguration l = tt
 low_told x StatusByBroadcast l = tt
-low_told x LineFull l = tt
-low_told x Busy l = tt
-low_told x NoWPanel l = tt
 low_told x (PartWrong p) l = let n = part-late p in absurd (omega (arith, n, l))
 
 frame_told : (x : Message) (m : List ℕ) (k : KRecord) → Told x (frames.turn_of m k).answer
 frame_told x m k = low_told x (frames.turn_of m k).answer (subst (λ (n : ℕ). n < 9) (sym (frame_answered m k)) (go (not (eqb (length m) 24)) (not (frameAsks.is_ours m)) (frame_unclear (frameAsks.heard_of m))))
   where
-    go : (a b c : Bool) → first_of own_checks (a ∷ b ∷ false ∷ false ∷ false ∷ false ∷ false ∷ false ∷ false ∷ false ∷ c ∷ []) < 9
+    go : (a b c : Bool) → first_of own_checks (a ∷ b ∷ false ∷ false ∷ false ∷ false ∷ false ∷ false ∷ false ∷ c ∷ []) < 9
     go true b c = omega arith
     go false true c = omega arith
     go false false true = omega arith
@@ -157,16 +129,15 @@ frame_told x m k = low_told x (frames.turn_of m k).answer (subst (λ (n : ℕ). 
 -- ---- the box
 
 answer_told : (b : DisplayBox) (x : Message) → Told x (answer_to (names b) b x)
-unfolding turn target packetAsks.cast_of
+unfolding turn packetAsks.cast_of
 answer_told b (rs232c l m area) =
-    either (λ (t : Turn WRecord). Told (rs232c l m area) t.answer) (length area) (serial.turn_at (is_busy (panel_at (l - 1) b).line) m) _ tt
-    (serial_at (is_busy (panel_at (l - 1) b).line) (rs232c l m area) m _ (serialEnvelopes.first_wrong m))
+    either (λ (t : Turn WRecord). Told (rs232c l m area) t.answer) (length area) (serial.turn_of m) _ tt
+    (serial_told (rs232c l m area) m (serialAsks.values_of m) _ (serialEnvelopes.first_wrong m))
 answer_told b (kjw l m area) = either (λ (t : Turn KRecord). Told (kjw l m area) t.answer) (length area) (frames.turn_of m) _ tt (frame_told (kjw l m area) m _)
 answer_told b (tcp l m area) =
-    either (λ (t : Turn Standing). Told (tcp l m area) t.answer) (length area) (packetsAt.turn_at m) _ tt
-    (subst (Told (tcp l m area)) (sym (at_answer m (packetAsks.heard_of m) _ ∙ ap (cast_answer _) (sym (unless_not (packetAsks.heard_of m))))) (packet_told (tcp l m area) m false _ (packetEnvelopes.first_wrong m)))
-answer_told b (udp m) = packet_told (udp m) m (asks_status (packetAsks.data_of m)) (any_takes (names b) b m) (packetEnvelopes.first_wrong m)
-answer_told b (notice t l) = tt
+    either (λ (t : Turn WRecord). Told (tcp l m area) t.answer) (length area) (packets.turn_of m) _ tt
+    (subst (Told (tcp l m area)) (sym (turned_answer m (packetAsks.heard_of m) _ ∙ ap packets.answer_of (sym (unless_not (packetAsks.heard_of m))))) (packet_told (tcp l m area) m false (packetEnvelopes.first_wrong m)))
+answer_told b (udp m) = packet_told (udp m) m (asks_status (packetAsks.data_of m)) (packetEnvelopes.first_wrong m)
 
 -- whatever the box and the message
 pub told : (b : DisplayBox) (x : Message) → Told x (step b x).answer

@@ -9,11 +9,11 @@ use Rattle.terms.specs.Answers.{partPlace, number_of, answerPlace}
 use Rattle.terms.specs.declared.Part.{Part}
 use Rattle.terms.specs.declared.Part.TheVariants.{Request, Item, TooLong, NotMatching, Count, Checksum}
 use Rattle.terms.specs.declared.Answer.{Answer}
-use Rattle.terms.specs.declared.Answer.TheVariants.{Done, AreaTooSmall, NoSuchPanel, WrongLength, NotForUs, EnvelopeWrong, NotUnderstood, BadConfiguration, StatusByBroadcast, PartWrong, LineFull, Busy, NoWPanel}
+use Rattle.terms.specs.declared.Answer.TheVariants.{Done, AreaTooSmall, NoSuchPanel, WrongLength, NotForUs, EnvelopeWrong, NotUnderstood, BadConfiguration, StatusByBroadcast, PartWrong}
 use Rattle.panels.specs.declared.DisplayBox.{DisplayBox}
 use Rattle.rs232c_asks.proofs.Envelopes as serialEnvelopes
 use Rattle.sdcp_asks.proofs.Envelopes as packetEnvelopes
-use Rattle.steps.specs.Messages.{Message, rs232c, kjw, tcp, udp, notice}
+use Rattle.steps.specs.Messages.{Message, rs232c, kjw, tcp, udp}
 use Rattle.steps.specs.Step.{step}
 use Rattle.steps.proofs.Parts.{Broken, Told, told}
 use Rattle.steps.proofs.Only.{BadLength, only_part}
@@ -24,11 +24,10 @@ bytes_in (rs232c l m area) = m
 bytes_in (kjw l m area) = m
 bytes_in (tcp l m area) = m
 bytes_in (udp m) = m
-bytes_in (notice t l) = []
 
--- the places of the answers 0 to 17 to a message of so many bytes
+-- the places of the answers 0 to 14 to a message of so many bytes
 abbrev pub places_in : ℕ → List ℕ
-places_in n = 0 ∷ 0 ∷ 0 ∷ 0 ∷ 0 ∷ 0 ∷ 0 ∷ 0 ∷ 0 ∷ 8 ∷ 9 ∷ 11 ∷ 11 ∷ 1 ∷ (n - 1) ∷ 0 ∷ 0 ∷ 0 ∷ []
+places_in n = 0 ∷ 0 ∷ 0 ∷ 0 ∷ 0 ∷ 0 ∷ 0 ∷ 0 ∷ 0 ∷ 8 ∷ 9 ∷ 11 ∷ 11 ∷ 1 ∷ (n - 1) ∷ []
 
 -- a checksum that is told is the last byte
 sum_place : (x : Message) (place : ℕ) → Broken x (Checksum place) → place ≡ length (bytes_in x) - 1
@@ -36,7 +35,6 @@ sum_place (rs232c l m area) place w = w.2
 sum_place (kjw l m area) place w = absurd w
 sum_place (tcp l m area) place w = absurd w
 sum_place (udp m) place w = absurd w
-sum_place (notice t l) place w = absurd w
 
 places : (x : Message) (a : Answer) → Told x a → answerPlace a ≡ get_or (places_in (length (bytes_in x))) (number_of a) 0
 places x Done t = refl
@@ -48,9 +46,6 @@ places x EnvelopeWrong t = refl
 places x NotUnderstood t = refl
 places x BadConfiguration t = refl
 places x StatusByBroadcast t = refl
-places x LineFull t = refl
-places x Busy t = refl
-places x NoWPanel t = refl
 places x (PartWrong Request) t = refl
 places x (PartWrong Item) t = refl
 places x (PartWrong TooLong) t = refl
@@ -86,7 +81,6 @@ part_inside (rs232c l m area) p n w = serial_inside m p (omega (arith, n)) w
 part_inside (kjw l m area) p n w = absurd w
 part_inside (tcp l m area) p n w = packet_inside m p (omega (arith, n)) w
 part_inside (udp m) p n w = packet_inside m p (omega (arith, n)) w
-part_inside (notice t l) p n w = absurd w
 
 pub inside : (b : DisplayBox) (x : Message) → answerPlace (step b x).answer ≤ length (bytes_in x) - 1
 inside b x = go (step b x).answer refl
@@ -101,7 +95,4 @@ inside b x = go (step b x).answer refl
     go NotUnderstood e = omega arith
     go BadConfiguration e = omega arith
     go StatusByBroadcast e = omega arith
-    go LineFull e = omega arith
-    go Busy e = omega arith
-    go NoWPanel e = omega arith
     go (PartWrong p) e = let o = only_part b x p e in part_inside x p o.1 o.3

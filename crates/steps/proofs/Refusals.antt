@@ -1,87 +1,46 @@
 -- Every answer but 0 leaves the box: the message was refused at the door, or each panel's turn left its panel. Answers 1 to 4 send
 -- nothing, by UDP nothing is ever sent, and the first checks are those of the table.
-use mathlib.Core.Path.{◌≡◌, refl, sym, ap, subst, ◌∙◌}
-use mathlib.Core.Bool.{Bool, true, false, not, cond, ◌&&◌}
+use mathlib.Core.Path.{◌≡◌, refl, sym, ap, ◌∙◌}
+use mathlib.Core.Bool.{Bool, true, false}
 use mathlib.Core.List.{List, [], ◌∷◌}
 use Prim.Native.Nat.{ℕ, zero, suc, ◌-◌, ◌<◌, ◌≤◌}
-use native.Mathlib.Omega.{arith}
 use lib.Dec.{eqb}
 use lib.ListN.{length, get_or}
 use lib.Seq.{ext_get_or}
 use borrow.Author.Tests.{eq-eqb, lt-ltb, le-ltb}
 use Rattle.laws.specs.Runs.{each}
-use Rattle.laws.proofs.Conditions.{false_true, and_first, and_second, choose}
-use Rattle.laws.proofs.Runs.{each_at, each_length, some_at}
+use Rattle.laws.proofs.Conditions.{false_true, choose}
+use Rattle.laws.proofs.Runs.{each_at, each_length}
 use Rattle.terms.specs.Answers.{number_of}
 use Rattle.terms.specs.declared.Answer.{Answer}
-use Rattle.terms.specs.declared.Answer.TheVariants.{Done, AreaTooSmall, NoSuchPanel, WrongLength, NotForUs, PartWrong, LineFull}
-use Rattle.turns.specs.Turns.{Turn, turn_with}
-use Rattle.panels.specs.Waits.{is_busy, has_room}
-use Rattle.vmc_asks.specs.declared.Order.{Order}
-use Rattle.settling.specs.Settling.{may_wait, dropped}
-use Rattle.settling.specs.declared.Standing.{Standing}
-use Rattle.sdcp_asks.specs.Asks.{cast_of}
-use Rattle.sdcp_asks.specs.declared.Heard.{Heard}
-use Rattle.sdcp_asks.specs.declared.Heard.TheVariants.{Refused, Broken, NotUnderstood, Understood}
-use Rattle.sdcp.specs.Replies as packets
-use Rattle.sdcp.specs.Busy as packetsAt
+use Rattle.terms.specs.declared.Answer.TheVariants.{AreaTooSmall, NoSuchPanel, WrongLength, NotForUs}
 use Rattle.panels.specs.Records.{past_end}
 use Rattle.panels.specs.Valid.{valid}
 use Rattle.panels.specs.declared.Panel.{Panel}
 use Rattle.panels.specs.declared.DisplayBox.{DisplayBox}
-use Rattle.steps.specs.Messages.{Message, rs232c, kjw, tcp, udp, notice, Name, nobody, names, on_link, is_w}
+use Rattle.steps.specs.Messages.{Message, rs232c, kjw, tcp, udp, Name, nobody, names, on_link, is_w}
 use Rattle.steps.specs.Addressing.{target, is_called, addressed, any_called}
-use Rattle.steps.specs.Step.{standing_of, cast_answer, any_takes, to_nobody, door, turn, nothing, back, Outcome, panel_at, own_turn, answer_to, refused, step}
+use Rattle.steps.specs.Step.{to_nobody, door, turn, nothing, back, Outcome, panel_at, own_turn, answer_to, refused, step}
 use Rattle.steps.proofs.Sound.{sound}
-use Rattle.steps.proofs.Door.{Lends, by_rs232c, by_kjw, by_tcp_lem, no_link, nobody_shut, speaks, nobody_speaks, lent_door, by_door, opens_done}
-use Rattle.steps.proofs.Turns.{Reaches, reaches_inside, own_turn_lem}
+use Rattle.steps.proofs.Door.{Lends, by_rs232c, by_kjw, by_tcp_lem, no_link, nobody_shut, speaks, nobody_speaks, lent_door, by_door}
+use Rattle.steps.proofs.Turns.{own_answer}
 use Rattle.steps.proofs.Validity.{bad_names, bad_shut}
 
 -- ---- every answer but 0 leaves the box
 
 -- panels that each stay where they are called all stay
-pub each_left : (called : ℕ → Bool) (f : Panel → Panel) (ps : List Panel) → ((i : ℕ) → called i ≡ true → f (get_or ps i past_end) ≡ get_or ps i past_end) → each called f ps ≡ ps
+each_left : (called : ℕ → Bool) (f : Panel → Panel) (ps : List Panel) → ((i : ℕ) → called i ≡ true → f (get_or ps i past_end) ≡ get_or ps i past_end) → each called f ps ≡ ps
 each_left called f ps e =
     ext_get_or past_end (each called f ps) ps (each_length called f ps)
     (λ i h. each_at called f ps i past_end (rw (each_length called f ps) at h) ∙ choose (λ (p : Panel). p ≡ get_or ps i past_end) (called i) (f (get_or ps i past_end)) (get_or ps i past_end) (λ t. e i t) (λ t. refl))
 
-either_way : (b : Bool) (x y : Turn Standing) (n : ℕ) → number_of x.answer ≡ n → number_of y.answer ≡ n → number_of (cond b x y).answer ≡ n
-either_way true x y n e f = e
-either_way false x y n e f = f
-
--- document 02, §9: where a panel that is called took a packet by UDP, it is answered 0
-at_heard : (m : List ℕ) (h : Heard) (s : Standing) (took : Order → Bool) → ((o : Order) → dropped o s.line ≡ false → took o ≡ true) → number_of (packetsAt.turned_at m h s).answer ≡ 0 → number_of (cast_answer took h) ≡ 0
-unfolding packetsAt.turned_at packetsAt.while_busy packets.turned
-at_heard m (Refused a) s took f z = sym (either_way (is_busy s.line) (packetsAt.while_busy m (Refused a) s) (turn_with (packetsAt.with_record s) (packets.turned m (Refused a) s.w)) (number_of a) refl refl) ∙ z
-at_heard m (Broken p) s took f z = sym (either_way (is_busy s.line) (packetsAt.while_busy m (Broken p) s) (turn_with (packetsAt.with_record s) (packets.turned m (Broken p) s.w)) (number_of (PartWrong p)) refl refl) ∙ z
-at_heard m NotUnderstood s took f z = sym (either_way (is_busy s.line) (packetsAt.while_busy m NotUnderstood s) (turn_with (packetsAt.with_record s) (packets.turned m NotUnderstood s.w)) 6 refl refl) ∙ z
-at_heard m (Understood o) s took f z = go (dropped o s.line) refl
-  where
-    go : (d : Bool) → dropped o s.line ≡ d → number_of (cond (took o) Done LineFull) ≡ 0
-    go true d =
-        let b = and_second (may_wait o) (is_busy s.line) (and_first (may_wait o && is_busy s.line) (not (has_room s.line)) d) in
-        let q : number_of (packetsAt.while_busy m (Understood o) s).answer ≡ 0 = subst (λ (x : Bool). number_of (cond x (packetsAt.while_busy m (Understood o) s) (turn_with (packetsAt.with_record s) (packets.turned m (Understood o) s.w))).answer ≡ 0) b z in
-        absurd (let r : ◌≡◌ {A = ℕ} 15 0 = rw d at q in omega arith)
-    go false d = rw (f o d)
-
--- a message that some panel answered 0 itself is answered 0
-pub took_done : (b : DisplayBox) (m : Message) (i : ℕ) → Reaches b m i → number_of (turn m (panel_at i b)).answer ≡ 0 → number_of (answer_to (names b) b m) ≡ 0
-unfolding turn
-took_done b (rs232c l m area) i r z = ap (λ (t : Turn Panel). number_of t.answer) (own_turn_lem (names b) b i (by_rs232c m) r.meant) ∙ z
-took_done b (kjw l m area) i r z = ap (λ (t : Turn Panel). number_of t.answer) (own_turn_lem (names b) b i (by_kjw m) r.meant) ∙ z
-took_done b (tcp l m area) i r z = ap (λ (t : Turn Panel). number_of t.answer) (own_turn_lem (names b) b i (by_tcp_lem m) r.meant) ∙ z
-took_done b (udp m) i r z =
-    at_heard m (cast_of m) (standing_of (panel_at i b)) (any_takes (names b) b m)
-    (λ o d. some_at (addressed (names b) (udp m)) (λ (x : Panel). not (dropped o x.line)) b.panels i past_end (reaches_inside r) r.meant (ap not d)) z
-took_done b (notice t l) i r z = refl
-
--- "unchanged" stands beside answers 1 to 6; of document 02's numbers, 8 to 17, the same holds
+-- "unchanged" stands beside answers 1 to 6
 pub refused_leaves : (b : DisplayBox) (m : Message) → (number_of (step b m).answer ≡ 0 → ⊥) → (step b m).box ≡ b
 refused_leaves b m =
     by_door (λ (o : Outcome). (number_of o.answer ≡ 0 → ⊥) → o.box ≡ b) b m
     (λ e z. ap (λ (ps : List Panel). record { count = b.count; panels = ps })
     (each_left (addressed (names b) m) (λ (p : Panel). (turn m p).after) b.panels
-    (λ i a. (sound m (panel_at i b)).unmoved (λ q. z (took_done b m i (record { passes = opens_done (names b) m e; meant = a }) q)))))
+    (λ i a. (sound m (panel_at i b)).unmoved (λ q. z (ap number_of (own_answer (names b) b m i a) ∙ q)))))
     (λ e z. refl)
 
 -- ---- what is sent
@@ -95,7 +54,6 @@ own_quiet ns b (rs232c l m area) z k = ap (back (rs232c l m area)) ((sound (rs23
 own_quiet ns b (kjw l m area) z k = ap (back (kjw l m area)) ((sound (kjw l m area) (panel_at (target ns (kjw l m area) - 1) b)).quiet z k)
 own_quiet ns b (tcp l m area) z k = ap (back (tcp l m area)) ((sound (tcp l m area) (panel_at (target ns (tcp l m area) - 1) b)).quiet z k)
 own_quiet ns b (udp m) z k = refl
-own_quiet ns b (notice t l) z k = refl
 
 -- "none" stands as the reply beside answers 1 to 4
 pub early_quiet : (b : DisplayBox) (m : Message) → (number_of (step b m).answer ≡ 0 → ⊥) → number_of (step b m).answer < 5 → (step b m).back ≡ back m []

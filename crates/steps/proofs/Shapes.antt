@@ -1,7 +1,7 @@
 -- The arrays of a W record have their lengths in every box that a configuration and messages lead to: a configuration gives them, and no order changes them.
 use Prim.Native.Nat.{ℕ, zero, suc, ◌/◌, ◌%◌, ◌<◌}
-use mathlib.Core.Path.{◌≡◌, refl, sym, ap, subst, ◌∙◌}
-use mathlib.Core.Bool.{Bool, true, false, ◌&&◌}
+use mathlib.Core.Path.{◌≡◌, refl, ap, ◌∙◌}
+use mathlib.Core.Bool.{◌&&◌}
 use mathlib.Core.List.{List, [], ◌∷◌}
 use lib.Dec.{eqb, ltb}
 use native.Mathlib.Omega.{arith}
@@ -10,21 +10,16 @@ use Rattle.laws.specs.Lists.{every, places}
 use Rattle.laws.proofs.Conditions.{choose}
 use Rattle.terms.specs.declared.Answer.TheVariants.{Done}
 use Rattle.settings.specs.Table.{place_count}
-use Rattle.turns.specs.Turns.{Turn, turn_with}
+use Rattle.turns.specs.Turns.{Turn}
 use Rattle.turns.proofs.Turns.{either as behind}
 use Rattle.panels.specs.Records.{start_w, zero_panel, past_end}
 use Rattle.configure.specs.Configure.{asked_at, asked, refusal, configured}
 use Rattle.panels.specs.Valid.{valid}
-use Rattle.panels.specs.Waits.{is_busy}
 use Rattle.panels.specs.declared.Panel.{Panel}
 use Rattle.panels.specs.declared.WRecord.{WRecord}
 use Rattle.panels.specs.declared.DisplayBox.{DisplayBox}
 use Rattle.configure.specs.declared.Configured.{Configured}
 use Rattle.vmc.specs.Orders as words
-use Rattle.settling.specs.Settling.{orders_in, carried_all, settled, waits, dropped, carried_now, joined_by, obeyed, freed}
-use Rattle.settling.specs.declared.Standing.{Standing}
-use Rattle.rs232c.proofs.Busy.{busy_leaves}
-use Rattle.sdcp.specs.Busy as packetsAt
 use Rattle.vmc.proofs.Flip.{assigned_length}
 use Rattle.vmc_asks.specs.declared.Order as wordOrder
 use Rattle.vmc_asks.specs.declared.Order.TheVariants.{Set, Shift, Reset, Get}
@@ -42,8 +37,8 @@ use Rattle.sdcp_asks.specs.Asks.{heard_of, cast_of}
 use Rattle.sdcp.specs.Replies as packets
 use Rattle.sdcp_asks.specs.declared.Heard as packetHeard
 use Rattle.sdcp_asks.specs.declared.Heard.TheVariants as packetIs
-use Rattle.steps.specs.Messages.{Message, rs232c, kjw, tcp, udp, notice, name_of, is_w}
-use Rattle.steps.specs.Step.{standing_of, settled_of, after_notice, turn, panel_at, step}
+use Rattle.steps.specs.Messages.{Message, rs232c, kjw, tcp, udp}
+use Rattle.steps.specs.Step.{turn, panel_at, step}
 use Rattle.steps.specs.Run.{run}
 use Rattle.steps.proofs.Turns.{Reaches, reaches_inside, either}
 use Rattle.steps.proofs.Validity.{places_kept}
@@ -107,42 +102,12 @@ packet_turned m (packetIs.Broken p) w s = s
 packet_turned m packetIs.NotUnderstood w s = s
 packet_turned m (packetIs.Understood o) w s = words_keep o w s
 
--- ---- document 02, §9: busy or not, and what waits
-
-pub all_keep : (os : List wordOrder.Order) (w : WRecord) → Shaped w → Shaped (carried_all os w)
-all_keep [] w s = s
-all_keep (o ∷ os) w s = all_keep os (words.carried o w) (words_keep o w s)
-
-busy_turned : (m : List ℕ) (h : packetHeard.Heard) (x : Standing) → Shaped x.w → Shaped (packetsAt.while_busy m h x).after.w
-unfolding packetsAt.while_busy obeyed
-busy_turned m (packetIs.Refused a) x s = s
-busy_turned m (packetIs.Broken p) x s = s
-busy_turned m packetIs.NotUnderstood x s = s
-busy_turned m (packetIs.Understood o) x s =
-    choose (λ (t : Turn Standing). Shaped t.after.w) (dropped o x.line) _ _ (λ e. s)
-    (λ e. choose (λ (y : Standing). Shaped y.w) (waits o x.line) (joined_by o x) (carried_now o x) (λ f. s) (λ f. words_keep o x.w s))
-
-at_turned : (m : List ℕ) (h : packetHeard.Heard) (x : Standing) → Shaped x.w → Shaped (packetsAt.turned_at m h x).after.w
-unfolding packetsAt.turned_at
-at_turned m h x s =
-    choose (λ (t : Turn Standing). Shaped t.after.w) (is_busy x.line) (packetsAt.while_busy m h x) (turn_with (packetsAt.with_record x) (packets.turned m h x.w))
-    (λ e. busy_turned m h x s) (λ e. packet_turned m h x.w s)
-
-serial_at : (busy : Bool) (m : List ℕ) (w : WRecord) → Shaped w → Shaped (serial.turn_at busy m w).after
-serial_at true m w s = subst Shaped (sym (busy_leaves (serialAsks.heard_of m) w)) s
-serial_at false m w s = serial_turned (serialAsks.heard_of m) (serialAsks.values_of m) w s
-
 turn_shaped : (m : Message) (p : Panel) → Shaped p.w → Shaped (turn m p).after.w
-unfolding turn settled freed
-turn_shaped (rs232c l m area) p s = behind (λ (t : Turn WRecord). Shaped t.after) (length area) (serial.turn_at (is_busy p.line) m) p.w s (serial_at (is_busy p.line) m p.w s)
+unfolding turn
+turn_shaped (rs232c l m area) p s = behind (λ (t : Turn WRecord). Shaped t.after) (length area) (serial.turn_of m) p.w s (serial_turned (serialAsks.heard_of m) (serialAsks.values_of m) p.w s)
 turn_shaped (kjw l m area) p s = s
-turn_shaped (tcp l m area) p s = behind (λ (t : Turn Standing). Shaped t.after.w) (length area) (packetsAt.turn_at m) (standing_of p) s (at_turned m (heard_of m) (standing_of p) s)
-turn_shaped (udp m) p s = at_turned m (cast_of m) (standing_of p) s
-turn_shaped (notice t l) p s = choose (λ (q : Panel). Shaped q.w) (is_w (name_of p)) (after_notice t p) p (λ e. told t) (λ e. s)
-  where
-    told : (t : Bool) → Shaped (after_notice t p).w
-    told true = s
-    told false = all_keep (orders_in p.line) p.w s
+turn_shaped (tcp l m area) p s = behind (λ (t : Turn WRecord). Shaped t.after) (length area) (packets.turn_of m) p.w s (packet_turned m (heard_of m) p.w s)
+turn_shaped (udp m) p s = packet_turned m (cast_of m) p.w s
 
 -- ---- and so do runs
 
@@ -199,8 +164,3 @@ pub shaped : (c : List ℕ) (ms : List Message) {m : Message} {i : ℕ} → Reac
 shaped c ms {m} {i} r =
     let h = reaches_inside r in
     run_shaped ms (configured c).made i (configured_shaped c i (omega (arith, run_places ms (configured c).made, eight_places c)))
-
--- and so has its record as it will stand
-pub settled_shaped : (c : List ℕ) (ms : List Message) {m : Message} {i : ℕ} → Reaches (run_from c ms) m i → Shaped (settled_of (panel_at i (run_from c ms)))
-unfolding settled
-settled_shaped c ms {m} {i} r = all_keep (orders_in (panel_at i (run_from c ms)).line) (panel_at i (run_from c ms)).w (shaped c ms r)

@@ -15,12 +15,13 @@ use Rattle.panels.specs.declared.DisplayBox.{DisplayBox}
 use Rattle.vmc_asks.specs.Asks.{asks_status}
 use Rattle.sdcp_asks.specs.Asks.{is_ours, envelope_of, data_of}
 use Rattle.sdcp_asks.proofs.Cast.{cast_status}
+use Rattle.sdcp.specs.Replies.{answer_of}
 use Rattle.steps.specs.Messages.{udp, names}
 use Rattle.steps.specs.Addressing.{addressed, any_called}
-use Rattle.steps.specs.Step.{Back, door, cast_answer, any_takes, refused, step}
+use Rattle.steps.specs.Step.{Back, door, refused, step}
 use Rattle.steps.proofs.Addressed.{foreign_udp}
 use Rattle.steps.proofs.Refusals.{refused_leaves, udp_quiet}
-use Rattle.steps.proofs.Door.{uncalled}
+use Rattle.steps.proofs.Only.{uncalled}
 
 module _ (b : DisplayBox) (m : List ℕ) (i : ℕ) (a : addressed (names b) (udp m) i ≡ true) where
   -- somebody is addressed, so the packet is ours
@@ -42,7 +43,7 @@ module _ (b : DisplayBox) (m : List ℕ) (i : ℕ) (a : addressed (names b) (udp
 
   answered : 13 ≤ length m → envelope_of m ≡ Good → asks_status (data_of m) ≡ true → (step b (udp m)).answer ≡ StatusByBroadcast
   unfolding step door
-  answered h w e = rw some (ap (cast_answer (any_takes (names b) b m)) (cast_status m h ours w e))
+  answered h w e = rw some (ap answer_of (cast_status m h ours w e))
 
   -- whatever the box, and whatever follows the word: "no panel changes and no reply is sent"
   pub status_refused : 13 ≤ length m → envelope_of m ≡ Good → asks_status (data_of m) ≡ true → step b (udp m) ≡ refused b (udp m) StatusByBroadcast

@@ -16,10 +16,11 @@ use Rattle.panels.specs.Records.{past_end}
 use Rattle.panels.specs.Valid.{in_use, valid}
 use Rattle.panels.specs.declared.Panel.{Panel}
 use Rattle.panels.specs.declared.DisplayBox.{DisplayBox}
-use Rattle.steps.specs.Messages.{Message, rs232c, kjw, tcp, udp, notice, Name, nobody, name_of, names}
+use Rattle.sdcp_asks.specs.Asks.{cast_of}
+use Rattle.sdcp.proofs.Refusals.{turned_answer}
+use Rattle.steps.specs.Messages.{Message, Name, nobody, name_of, names}
 use Rattle.steps.specs.Addressing.{target, addressed}
 use Rattle.steps.specs.Step.{door, turn, back, Outcome, panel_at, own_turn, answer_to, passed, refused, step}
-use Rattle.steps.specs.Run.{answer_at}
 use Rattle.steps.proofs.Door.{Lends, by_rs232c, by_kjw, by_tcp_lem, by_way, opens, opens_done, done_opens, by_door, speaks, nobody_speaks, door_passed, its_family}
 
 -- a message comes to the panel at place i: it passes the checks before the panels, and is addressed to that place
@@ -28,8 +29,8 @@ pub record Reaches (b : DisplayBox) (m : Message) (i : ℕ) : Type 0 where
   pub meant : addressed (names b) m i ≡ true
 
 -- 1: "reply area under 512 bytes": with a link, such a message has room for its reply
-pub has_room_lem : {b : DisplayBox} {m : Message} {i l : ℕ} {area : List ℕ} → Lends l area m → Reaches b m i → 512 ≤ length area
-has_room_lem {b} k r = (door_passed (names b) k r.passes).room
+pub has_room : {b : DisplayBox} {m : Message} {i l : ℕ} {area : List ℕ} → Lends l area m → Reaches b m i → 512 ≤ length area
+has_room {b} k r = (door_passed (names b) k r.passes).room
 
 -- an answer of 0 has passed the checks before the panels
 pub done_passes : (b : DisplayBox) (m : Message) → (step b m).answer ≡ Done → door (names b) m ≡ Done
@@ -136,26 +137,16 @@ goes_back {b} {m} {i} k r = record {
     e : step b m ≡ passed (names b) b m
     e = rw r.passes
 
--- a step past the door, and one that stops there
-pub passed_is : (b : DisplayBox) (m : Message) → door (names b) m ≡ Done → step b m ≡ passed (names b) b m
-unfolding step
-passed_is b m d = rw d
+-- the answer given is that of each panel addressed: by UDP it is that of what was heard, the same for all
+pub own_answer : (ns : List Name) (b : DisplayBox) (m : Message) (i : ℕ) → addressed ns m i ≡ true → answer_to ns b m ≡ (turn m (panel_at i b)).answer
+unfolding turn
+own_answer ns b m i =
+    by_way (λ (x : Message). addressed ns x i ≡ true → answer_to ns b x ≡ (turn x (panel_at i b)).answer)
+    (λ l area x k a. link_answer ns b k ∙ ap (λ (t : Turn Panel). t.answer) (own_turn_lem ns b i k a))
+    (λ x a. sym (turned_answer x (cast_of x) (panel_at i b).w)) m
 
-pub refused_is : (b : DisplayBox) (m : Message) → opens (names b) m ≡ false → step b m ≡ refused b m (door (names b) m)
-unfolding step
-refused_is b m e = rw e
-
--- the panel's own answer is that of its turn, where the message comes to it
-pub own_answer : (b : DisplayBox) (m : Message) (i : ℕ) → Reaches b m i → answer_at i b m ≡ (turn m (panel_at i b)).answer
-unfolding step turn
-own_answer b (rs232c l m area) i r = (goes_back (by_rs232c m) r).answer_is
-own_answer b (kjw l m area) i r = (goes_back (by_kjw m) r).answer_is
-own_answer b (tcp l m area) i r = (goes_back (by_tcp_lem m) r).answer_is
-own_answer b (udp m) i r = refl
-own_answer b (notice t l) i r = ap (λ (o : Outcome). o.answer) (passed_is b (notice t l) r.passes)
-
--- and what goes back is its reply: by UDP nothing does, nor for a notice
+-- and what goes back is its reply: by UDP nothing does
 pub own_back : (ns : List Name) (b : DisplayBox) (m : Message) (i : ℕ) → addressed ns m i ≡ true → back m (own_turn ns b m).reply ≡ back m (turn m (panel_at i b)).reply
 own_back ns b m i =
     by_way (λ (x : Message). addressed ns x i ≡ true → back x (own_turn ns b x).reply ≡ back x (turn x (panel_at i b)).reply)
-    (λ l area x k a. ap (λ (t : Turn Panel). back x t.reply) (own_turn_lem ns b i k a)) (λ x a. refl) (λ t l a. refl) m
+    (λ l area x k a. ap (λ (t : Turn Panel). back x t.reply) (own_turn_lem ns b i k a)) (λ x a. refl) m

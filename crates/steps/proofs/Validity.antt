@@ -16,9 +16,9 @@ use Rattle.panels.specs.Records.{family_w, family_k, past_end}
 use Rattle.panels.specs.Valid.{ok_panel, share, apart, distinct, in_use, valid}
 use Rattle.panels.specs.declared.Panel.{Panel}
 use Rattle.panels.specs.declared.DisplayBox.{DisplayBox}
-use Rattle.steps.specs.Messages.{Message, rs232c, kjw, tcp, udp, notice, Name, nobody, name_of, names, is_w}
+use Rattle.steps.specs.Messages.{Message, rs232c, kjw, tcp, udp, Name, nobody, name_of, names, is_w}
 use Rattle.steps.specs.Addressing.{addressed}
-use Rattle.steps.specs.Step.{after_notice, turn, Outcome, panel_at, with_panels, step}
+use Rattle.steps.specs.Step.{turn, Outcome, panel_at, with_panels, step}
 use Rattle.steps.proofs.Sound.{sound}
 use Rattle.steps.proofs.Door.{opens, done_opens, shut, speaks, nobody_speaks, its_family, by_door}
 use Rattle.steps.proofs.Turns.{Reaches, at_place}
@@ -165,11 +165,6 @@ w_turn (rs232c l m area) p f s = refl
 w_turn (kjw l m area) p f s = absurd (false_true (rw (eq-eqb p.family family_w f) at s))
 w_turn (tcp l m area) p f s = refl
 w_turn (udp m) p f s = refl
-w_turn (notice t l) p f s = rw s (told t)
-  where
-    told : (t : Bool) → (after_notice t p).k ≡ p.k
-    told true = refl
-    told false = refl
 
 -- "family W (speaks RS-232C and SDCP with VMC text) or family K (speaks KJW frames)": the other family's record of a panel stays
 pub w_keeps_k : (b : DisplayBox) (m : Message) (i : ℕ) → (panel_at i b).family ≡ family_w → (panel_at i (step b m).box).k ≡ (panel_at i b).k
@@ -185,7 +180,6 @@ k_turn (rs232c l m area) p f s = absurd (false_true (sym (no_w p f) ∙ s))
 k_turn (kjw l m area) p f s = refl
 k_turn (tcp l m area) p f s = absurd (false_true (sym (no_w p f) ∙ s))
 k_turn (udp m) p f s = absurd (false_true (sym (no_w p f) ∙ s))
-k_turn (notice t l) p f s = absurd (false_true (sym (no_w p f) ∙ s))
 
 pub k_keeps_w : (b : DisplayBox) (m : Message) (i : ℕ) → (panel_at i b).family ≡ family_k → (panel_at i (step b m).box).w ≡ (panel_at i b).w
 k_keeps_w b m i f = at_place (λ (p : Panel). p.w ≡ (panel_at i b).w) b m i refl (λ r. k_turn m (panel_at i b) f (its_own r).1)

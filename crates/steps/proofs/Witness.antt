@@ -2,26 +2,23 @@
 -- and two that do for panel 3, a K panel; by computation.
 use Prim.Native.Nat.{ℕ}
 use mathlib.Core.Path.{◌≡◌, refl, sym, ap, ◌∙◌}
-use mathlib.Core.Bool.{true, false}
 use mathlib.Core.List.{List, [], ◌∷◌, ◌++◌}
 use native.Mathlib.Omega.{arith}
 use lib.Dec.{lit<}
 use lib.ListN.{length, get_or}
 use Rattle.laws.specs.Bytes.{ascii}
-use Rattle.terms.specs.declared.Answer.TheVariants.{Done, Busy}
+use Rattle.terms.specs.declared.Answer.TheVariants.{Done}
 use Rattle.panels.specs.Records.{family_w, family_k, start_k}
 use Rattle.configure.specs.Configure.{configured}
 use Rattle.panels.specs.declared.Panel.{Panel}
 use Rattle.panels.specs.declared.DisplayBox.{DisplayBox}
 use Rattle.kjw.specs.Orders.{with_power, with_volume}
-use Rattle.steps.specs.Messages.{Message, rs232c, kjw, tcp, udp, busy, free, names}
+use Rattle.steps.specs.Messages.{Message, rs232c, kjw, tcp, udp, names}
 use Rattle.steps.specs.Step.{Back, back_on, nothing, panel_at}
 use Rattle.steps.specs.Run.{Got, run, kept, replies}
 use Rattle.steps.proofs.Opened.{opened}
 use Rattle.steps.proofs.Bench.{lent, packet, line}
 use Rattle.steps.proofs.Alone.{demand_3_configured}
-use Rattle.kjw_sets.specs.declared.State.TheVariants.{Volume}
-use Rattle.steps.proofs.Stays.{sets, bears, sets_state, spared}
 
 -- W 1/1, W 1/2, K, W 2/1, W 2/2, K, W 3/1, W 1/3
 abbrev eight : List ℕ
@@ -93,36 +90,6 @@ differ e = let q : ◌≡◌ {A = ℕ} 99 40 = sym ends.0 ∙ ap (volume 0) e �
 pub heard_alike : replies 1 start two ≡ done nothing ∷ done (back_on room told_40) ∷ done nothing ∷ done (back_on room told_off) ∷ []
 heard_alike = sym (demand_3_configured eight 1 one two (lit< tt) kept_alike).1 ∙ ends.2
 
--- ---- document 02, §9: panel 2 while it is busy, in two runs that differ at panel 1
-
-abbrev five : List Message
-five = busy 2 ∷ call ∷ ask ∷ remote ∷ []
-
-abbrev six : List Message
-six = busy 1 ∷ busy 2 ∷ tcp 1 (to 0 0 (ascii "STATset VOLUME 7")) room ∷ call ∷ free 3 ∷ ask ∷ free 1 ∷ remote ∷ []
-
-busy_kept_of : (kept 1 (names start) five ≡ busy 2 ∷ call ∷ ask ∷ remote ∷ []) × (kept 1 (names start) six ≡ busy 2 ∷ call ∷ ask ∷ remote ∷ [])
-unfolding opened
-busy_kept_of = (refl, refl)
-
-pub busy_kept_alike : kept 1 (names start) five ≡ kept 1 (names start) six
-busy_kept_alike = busy_kept_of.0 ∙ sym busy_kept_of.1
-
--- what it heard: the set waits, STATget tells it, and RS-232C is answered NAK
-abbrev busy_told : List Got
-busy_told = done nothing ∷ done nothing ∷ done (back_on room told_40) ∷ record { answer = Busy; back = back_on room (0x02 ∷ 0x03 ∷ 0x41 ∷ 0x01 ∷ 0x05 ∷ 0xb6 ∷ []) } ∷ []
-
--- one set waits at panel 2, whose record is as it was
-busy_ends : ((panel_at 1 (run start five)).line.busy ≡ 1) × ((panel_at 1 (run start five)).line.count ≡ 1) × (volume 1 (run start five) ≡ 30) × (volume 0 (run start five) ≡ 40) × ((panel_at 0 (run start six)).line.busy ≡ 0) × (replies 1 start five ≡ busy_told)
-unfolding opened
-busy_ends = (refl, refl, refl, refl, refl, refl)
-
--- the second run leaves panel 2, line and mark too, as the first did, with the same replies, by demand 3
-pub busy_alike : (panel_at 1 (run start six) ≡ panel_at 1 (run start five)) × (replies 1 start six ≡ busy_told)
-busy_alike =
-    let same = demand_3_configured eight 1 five six (lit< tt) busy_kept_alike in
-    (sym same.0, sym same.1 ∙ busy_ends.5)
-
 -- ---- panel 3, a K panel
 
 -- turned on, made louder and asked on its own link
@@ -170,19 +137,3 @@ pub k_alike : ((panel_at 2 (run start four)).k ≡ with_volume 40 (with_power 1 
 k_alike =
     let same = demand_3_configured eight 2 three four (lit< tt) k_kept_alike in
     (ap (λ (p : Panel). p.k) (sym same.0) ∙ k_ends.2, sym same.1 ∙ k_ends.3)
-
--- ---- "next or later": what does not set a panel's VOLUME, or its white balance, and what does
-
-abbrev others : List Message
-others = udp (to 1 0xff (ascii "STATset CHROMA 7")) ∷ tcp 2 (to 1 1 (ascii "STATset VOLUME 99")) room ∷ kjw 3 (line "*SCVOLU0000000000000040") room ∷ remote ∷ ask ∷ []
-
-pub spares : (spared (λ (m : Message). sets m 2) 1 start others ≡ true)
-    × (spared (bears 0x40) 1 start others ≡ true)
-    × (spared (λ (m : Message). sets m 2) 1 start (remote ∷ call ∷ []) ≡ false)
-unfolding opened
-spares = (refl, refl, refl)
-
-pub k_spares : (spared (λ (m : Message). sets_state m Volume) 2 start (power ∷ kjw 6 (line "*SCVOLU0000000000000007") room ∷ all ∷ how_loud ∷ []) ≡ true)
-    × (spared (λ (m : Message). sets_state m Volume) 2 start (power ∷ loud ∷ []) ≡ false)
-unfolding opened
-k_spares = (refl, refl)

@@ -3,7 +3,7 @@ use Rattle.std.specs.Prelude.{ℕ, suc, Bool, false, cond, ◌&&◌, ◌||◌, L
 use Rattle.terms.specs.declared.GroupId.{GroupId}
 use Rattle.terms.specs.declared.UnitId.{UnitId}
 use Rattle.sdcp_asks.specs.Asks.{is_ours, group_of, unit_of}
-use Rattle.steps.specs.Messages.{Message, rs232c, kjw, tcp, udp, notice, Name, nobody, a_w, a_k}
+use Rattle.steps.specs.Messages.{Message, rs232c, kjw, tcp, udp, Name, nobody, a_w, a_k}
 
 -- the packet has its first eight bytes, and they are SDCP's: fewer, or a wrong version, category or community, address nobody
 unfoldable pub has_ids : List ℕ → Bool
@@ -32,13 +32,12 @@ by_tcp ns l m =
     0
 
 -- the number of the one panel that a message with a link addresses, 0 for nobody: "An RS-232C or KJW message is addressed to the
--- panel of its link."; document 02, §9: a notice counts "as addressed to that panel"
+-- panel of its link."
 unfoldable pub target : List Name → Message → ℕ
 target ns (rs232c l m a) = l
 target ns (kjw l m a) = l
 target ns (tcp l m a) = by_tcp ns l m
 target ns (udp m) = 0
-target ns (notice t l) = l
 
 -- "UDP: 1..99/FFh is every W panel of that group; FFh/FFh every W panel. All else addresses nobody."
 unfoldable pub is_called : List ℕ → Name → Bool
@@ -52,7 +51,6 @@ addressed ns (rs232c l m a) i = eqb (target ns (rs232c l m a)) (suc i)
 addressed ns (kjw l m a) i = eqb (target ns (kjw l m a)) (suc i)
 addressed ns (tcp l m a) i = eqb (target ns (tcp l m a)) (suc i)
 addressed ns (udp m) i = is_called m (get_or ns i nobody)
-addressed ns (notice t l) i = eqb (target ns (notice t l)) (suc i)
 
 -- some panel is called
 abbrev pub any_called : List ℕ → List Name → Bool

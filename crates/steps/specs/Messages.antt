@@ -14,14 +14,6 @@ pub data Message : Type 0 where
   kjw : ℕ → List ℕ → List ℕ → Message
   tcp : ℕ → List ℕ → List ℕ → Message
   udp : List ℕ → Message
-  -- Document 02, §9: "The host will tell us when a W panel becomes busy and when free": true and false
-  notice : Bool → ℕ → Message
-
-abbrev pub busy : ℕ → Message
-busy l = notice true l
-
-abbrev pub free : ℕ → Message
-free l = notice false l
 
 -- what a panel is called by: "Each panel is of family W [..] or family K [..]. A W panel has a group ID [..] and a unit ID [..]"
 pub data Name : Type 0 where

@@ -1,13 +1,12 @@
--- Document 01, "Answer numbers" and the forms, and document 02, §5, §8 and §9: the one step, what a message does to a box.
-use Rattle.std.specs.Prelude.{ℕ, ◌-◌, Bool, true, false, not, cond, List, [], ◌∷◌, eqb, ltb, length, get_or}
+-- Document 01, "Answer numbers" and the forms, and document 02, §5 and §8: the one step, what a message does to a box.
+use Rattle.std.specs.Prelude.{ℕ, ◌-◌, Bool, cond, List, [], ◌∷◌, eqb, ltb, length, get_or}
 use Rattle.laws.specs.Bytes.{sent}
-use Rattle.laws.specs.Runs.{each, some_of}
+use Rattle.laws.specs.Runs.{each}
 use Rattle.terms.specs.Answers.{number_of}
 use Rattle.terms.specs.declared.Answer.{Answer}
-use Rattle.terms.specs.declared.Answer.TheVariants.{Done, AreaTooSmall, NoSuchPanel, WrongLength, NotForUs, LineFull, NoWPanel}
+use Rattle.terms.specs.declared.Answer.TheVariants.{Done, AreaTooSmall, NoSuchPanel, WrongLength, NotForUs}
 use Rattle.turns.specs.Turns.{Turn, taken, turn_with}
 use Rattle.panels.specs.Records.{past_end}
-use Rattle.panels.specs.Waits.{is_busy, busied}
 use Rattle.panels.specs.declared.Panel.{Panel}
 use Rattle.panels.specs.declared.WRecord.{WRecord}
 use Rattle.panels.specs.declared.KRecord.{KRecord}
@@ -16,40 +15,22 @@ use Rattle.rs232c.specs.Replies as serial
 use Rattle.kjw.specs.Replies as frames
 use Rattle.sdcp_asks.specs.Asks.{cast_of}
 use Rattle.sdcp.specs.Replies as packets
-use Rattle.sdcp.specs.Busy as packetsAt
-use Rattle.sdcp_asks.specs.declared.Heard.{Heard}
-use Rattle.sdcp_asks.specs.declared.Heard.TheVariants.{Refused, Broken, NotUnderstood, Understood}
-use Rattle.vmc_asks.specs.declared.Order.{Order}
-use Rattle.settling.specs.Settling.{settled, dropped, freed}
-use Rattle.settling.specs.declared.Standing.{Standing}
-use Rattle.steps.specs.Messages.{Message, rs232c, kjw, tcp, udp, notice, Name, name_of, names, on_link, is_w, is_k}
+use Rattle.steps.specs.Messages.{Message, rs232c, kjw, tcp, udp, Name, names, on_link, is_w, is_k}
 use Rattle.steps.specs.Addressing.{target, addressed, any_called}
 
 abbrev pub with_w : Panel → WRecord → Panel
-with_w p w = record { family = p.family; group = p.group; unit = p.unit; spare = p.spare; w = w; k = p.k; line = p.line }
+with_w p w = record { family = p.family; group = p.group; unit = p.unit; spare = p.spare; w = w; k = p.k }
 
 abbrev pub with_k : Panel → KRecord → Panel
-with_k p k = record { family = p.family; group = p.group; unit = p.unit; spare = p.spare; w = p.w; k = k; line = p.line }
-
--- what a W panel stands at: its record and its line
-abbrev pub standing_of : Panel → Standing
-standing_of p = record { w = p.w; line = p.line }
-
-abbrev pub with_standing : Panel → Standing → Panel
-with_standing p s = record { family = p.family; group = p.group; unit = p.unit; spare = p.spare; w = s.w; k = p.k; line = s.line }
-
--- "the record as it would stand after the line is carried out"
-abbrev pub settled_of : Panel → WRecord
-settled_of p = settled p.w p.line
+with_k p k = record { family = p.family; group = p.group; unit = p.unit; spare = p.spare; w = p.w; k = k }
 
 abbrev pub with_panels : DisplayBox → List Panel → DisplayBox
 with_panels b ps = record { count = b.count; panels = ps }
 
 -- "Checks run in the order of the numbers"; document 02, §5, "8, after 5 and before 6", and §8, "9 request, 10 item, 11 over 499, 12 not matching,
--- 13 byte count, 14 checksum; in that order within each form, at the old place of 5", and §9, "15 line full, after 6; 16 busy on RS-232C, after 14 and before
--- 6; 17 a busy notice for a link that is no W panel": the numbers in the order of their checks
+-- 13 byte count, 14 checksum; in that order within each form, at the old place of 5": the numbers in the order of their checks
 abbrev pub checks : List ℕ
-checks = 1 ∷ 2 ∷ 3 ∷ 4 ∷ 9 ∷ 10 ∷ 11 ∷ 12 ∷ 13 ∷ 14 ∷ 8 ∷ 16 ∷ 6 ∷ 15 ∷ 17 ∷ []
+checks = 1 ∷ 2 ∷ 3 ∷ 4 ∷ 9 ∷ 10 ∷ 11 ∷ 12 ∷ 13 ∷ 14 ∷ 8 ∷ 6 ∷ []
 
 -- the numbers that a message can be answered with: 7 is for a configuration alone, 5 for an advert
 abbrev pub message_answers : List ℕ
@@ -72,25 +53,14 @@ door ns (rs232c l m area) = if_open area (is_w (on_link ns l)) Done
 door ns (kjw l m area) = if_open area (is_k (on_link ns l)) Done
 door ns (tcp l m area) = if_open area (is_w (on_link ns l)) (cond (eqb (target ns (tcp l m area)) 0) (to_nobody m) Done)
 door ns (udp m) = cond (any_called m ns) Done (to_nobody m)
-door ns (notice t l) = cond (is_w (on_link ns l)) Done NoWPanel
 
 -- ---- what a panel does with a message that is addressed to it: it sees its own record alone
 
--- Document 02, §9: a W panel becomes busy, and what waits goes on waiting; or it becomes free, and "all are carried out in order"
-abbrev pub after_notice : Bool → Panel → Panel
-after_notice true p = with_standing p (record { w = p.w; line = busied p.line })
-after_notice false p = with_standing p (freed (standing_of p))
-
--- a K panel is not told
-abbrev pub after_notice_w : Bool → Panel → Panel
-after_notice_w t p = cond (is_w (name_of p)) (after_notice t p) p
-
 unfoldable pub turn : Message → Panel → Turn Panel
-turn (rs232c l m area) p = turn_with (with_w p) (taken (length area) (serial.turn_at (is_busy p.line) m) p.w)
+turn (rs232c l m area) p = turn_with (with_w p) (taken (length area) (serial.turn_of m) p.w)
 turn (kjw l m area) p = turn_with (with_k p) (taken (length area) (frames.turn_of m) p.k)
-turn (tcp l m area) p = turn_with (with_standing p) (taken (length area) (packetsAt.turn_at m) (standing_of p))
-turn (udp m) p = turn_with (with_standing p) (packetsAt.cast_turn_at m (standing_of p))
-turn (notice t l) p = record { after = after_notice_w t p; answer = Done; reply = [] }
+turn (tcp l m area) p = turn_with (with_w p) (taken (length area) (packets.turn_of m) p.w)
+turn (udp m) p = turn_with (with_w p) (packets.cast_turn_of m p.w)
 
 -- ---- the step
 
@@ -111,7 +81,6 @@ back (rs232c l m area) reply = back_on area reply
 back (kjw l m area) reply = back_on area reply
 back (tcp l m area) reply = back_on area reply
 back (udp m) reply = nothing
-back (notice t l) reply = nothing
 
 pub record Outcome : Type 0 where
   pub box : DisplayBox
@@ -125,23 +94,12 @@ panel_at i b = get_or b.panels i past_end
 abbrev pub own_turn : List Name → DisplayBox → Message → Turn Panel
 own_turn ns b m = turn m (panel_at (target ns m - 1) b)
 
--- document 02, §9: "By UDP each addressed panel decides for itself, and the answer is 0 if any took it"; else "15 line full"; what is no set has the
--- answer of what was heard, which is the same for every panel that is called
-abbrev pub cast_answer : (Order → Bool) → Heard → Answer
-cast_answer any_took (Refused a) = packets.answer_of (Refused a)
-cast_answer any_took (Broken p) = packets.answer_of (Broken p)
-cast_answer any_took NotUnderstood = packets.answer_of NotUnderstood
-cast_answer any_took (Understood o) = cond (any_took o) Done LineFull
-
-abbrev pub any_takes : List Name → DisplayBox → List ℕ → Order → Bool
-any_takes ns b m o = some_of (addressed ns (udp m)) (λ (p : Panel). not (dropped o p.line)) b.panels
-
+-- by UDP the answer is that of what was heard, which is the same for every panel that is called
 abbrev pub answer_to : List Name → DisplayBox → Message → Answer
 answer_to ns b (rs232c l m area) = (own_turn ns b (rs232c l m area)).answer
 answer_to ns b (kjw l m area) = (own_turn ns b (kjw l m area)).answer
 answer_to ns b (tcp l m area) = (own_turn ns b (tcp l m area)).answer
-answer_to ns b (udp m) = cast_answer (any_takes ns b m) (cast_of m)
-answer_to ns b (notice t l) = Done
+answer_to ns b (udp m) = packets.answer_of (cast_of m)
 
 abbrev pub passed : List Name → DisplayBox → Message → Outcome
 passed ns b m = record {

@@ -12,13 +12,13 @@ use Rattle.terms.specs.Answers.{partNumber, number_of, answerPlace}
 use Rattle.terms.specs.declared.Part.{Part}
 use Rattle.terms.specs.declared.Part.TheVariants.{Request, Item, TooLong, NotMatching, Count, Checksum}
 use Rattle.terms.specs.declared.Answer.{Answer}
-use Rattle.terms.specs.declared.Answer.TheVariants.{Done, AreaTooSmall, NoSuchPanel, WrongLength, NotForUs, EnvelopeWrong, NotUnderstood, BadConfiguration, StatusByBroadcast, PartWrong, LineFull, Busy, NoWPanel}
+use Rattle.terms.specs.declared.Answer.TheVariants.{Done, AreaTooSmall, NoSuchPanel, WrongLength, NotForUs, EnvelopeWrong, NotUnderstood, BadConfiguration, StatusByBroadcast, PartWrong}
 
--- the answers in the order of their numbers, number 14 with a checksum's place
+-- the answers in the order of their numbers, the last with a checksum's place
 abbrev pub answers : ℕ → List Answer
 answers place =
     Done ∷ AreaTooSmall ∷ NoSuchPanel ∷ WrongLength ∷ NotForUs ∷ EnvelopeWrong ∷ NotUnderstood ∷ BadConfiguration ∷ StatusByBroadcast
-    ∷ PartWrong Request ∷ PartWrong Item ∷ PartWrong TooLong ∷ PartWrong NotMatching ∷ PartWrong Count ∷ PartWrong (Checksum place) ∷ LineFull ∷ Busy ∷ NoWPanel ∷ []
+    ∷ PartWrong Request ∷ PartWrong Item ∷ PartWrong TooLong ∷ PartWrong NotMatching ∷ PartWrong Count ∷ PartWrong (Checksum place) ∷ []
 
 answer_of : ℕ → ℕ → Answer
 answer_of n place = get_or (answers place) n Done
@@ -40,9 +40,6 @@ back (PartWrong TooLong) = refl
 back (PartWrong NotMatching) = refl
 back (PartWrong Count) = refl
 back (PartWrong (Checksum place)) = refl
-back LineFull = refl
-back Busy = refl
-back NoWPanel = refl
 
 -- number and place tell the answer
 pub told-tells : (a b : Answer) → number_of a ≡ number_of b → answerPlace a ≡ answerPlace b → a ≡ b
@@ -68,8 +65,8 @@ unfolding answer_of
 every-answer f e a = sym (ap f (back a)) ∙ at_each f (answers (answerPlace a)) (number_of a) Done (e (answerPlace a)) (both (f Done) _ (e 0)).0
 
 -- the numbers are those from 0 on, one for each
-pub number_small : (a : Answer) → number_of a < 18
-number_small a = ltb-true (number_of a) 18 (every-answer (λ (x : Answer). ltb (number_of x) 18) (λ place. refl) a)
+pub number_small : (a : Answer) → number_of a < 15
+number_small a = ltb-true (number_of a) 15 (every-answer (λ (x : Answer). ltb (number_of x) 15) (λ place. refl) a)
 
 -- those of a wrong part are 9 and more
 pub part-late : (p : Part) → 9 ≤ partNumber p

@@ -1,9 +1,9 @@
--- Document 01, "Answer numbers", and document 02, §5, §8 and §9: the number of each answer, and the place that goes with it.
+-- Document 01, "Answer numbers", and document 02, §5 and §8: the number of each answer, and the place that goes with it.
 use Rattle.std.specs.Prelude.{ℕ}
 use Rattle.terms.specs.declared.Part.{Part}
 use Rattle.terms.specs.declared.Part.TheVariants.{Request, Item, TooLong, NotMatching, Count, Checksum}
 use Rattle.terms.specs.declared.Answer.{Answer}
-use Rattle.terms.specs.declared.Answer.TheVariants.{Done, AreaTooSmall, NoSuchPanel, WrongLength, NotForUs, EnvelopeWrong, NotUnderstood, BadConfiguration, StatusByBroadcast, PartWrong, LineFull, Busy, NoWPanel}
+use Rattle.terms.specs.declared.Answer.TheVariants.{Done, AreaTooSmall, NoSuchPanel, WrongLength, NotForUs, EnvelopeWrong, NotUnderstood, BadConfiguration, StatusByBroadcast, PartWrong}
 
 -- Document 02, §8: "9 request, 10 item, 11 over 499, 12 not matching, 13 byte count, 14 checksum"
 abbrev pub partNumber : Part → ℕ
@@ -34,9 +34,6 @@ number_of NotUnderstood = 6
 number_of BadConfiguration = 7
 number_of StatusByBroadcast = 8
 number_of (PartWrong p) = partNumber p
-number_of LineFull = 15
-number_of Busy = 16
-number_of NoWPanel = 17
 
 -- "other answers have place 0"
 abbrev pub answerPlace : Answer → ℕ
@@ -50,6 +47,3 @@ answerPlace NotUnderstood = 0
 answerPlace BadConfiguration = 0
 answerPlace StatusByBroadcast = 0
 answerPlace (PartWrong p) = partPlace p
-answerPlace LineFull = 0
-answerPlace Busy = 0
-answerPlace NoWPanel = 0

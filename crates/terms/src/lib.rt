@@ -49,12 +49,6 @@ pub enum Answer {
     StatusByBroadcast,
     // 9 to 14 a part of a message's envelope wrong (document 02, §8)
     PartWrong(Part),
-    // 15 the line of a busy panel is full (document 02, §9)
-    LineFull,
-    // 16 the panel is busy: RS-232C alone
-    Busy,
-    // 17 a busy notice for a link that is no W panel
-    NoWPanel,
 }
 
 // The number of a part that is wrong.
@@ -100,9 +94,6 @@ pub fn answer_number(a: Answer) -> u8
         Answer::BadConfiguration => 7,
         Answer::StatusByBroadcast => 8,
         Answer::PartWrong(p) => part_number(p),
-        Answer::LineFull => 15,
-        Answer::Busy => 16,
-        Answer::NoWPanel => 17,
     }
 }
 
@@ -121,9 +112,6 @@ pub fn answer_place(a: Answer) -> u16
         Answer::BadConfiguration => 0,
         Answer::StatusByBroadcast => 0,
         Answer::PartWrong(p) => part_place(p),
-        Answer::LineFull => 0,
-        Answer::Busy => 0,
-        Answer::NoWPanel => 0,
     }
 }
 

@@ -64,6 +64,9 @@ says_on flip inForce = go (eqb inForce flip) refl
     go true e h = eqb-true inForce flip e
     go false e h = absurd (omega (arith, h))
 
+says_off : (flip inForce : ℕ) → flip_says flip inForce ≡ 0 → inForce ≡ flip → ⊥
+says_off flip inForce h e = let g = says_it flip inForce e in omega (arith, g, h)
+
 says_small : (flip inForce : ℕ) → flip_says flip inForce ≤ 1
 says_small flip inForce = go (eqb inForce flip)
   where

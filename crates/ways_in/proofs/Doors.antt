@@ -1,17 +1,16 @@
 -- The door that the code reads off the IDs is the step's: the names behind the panels in use are nobody's, and change nothing.
-use Prim.Native.Nat.{ℕ, zero, suc, ◌-◌, ◌<◌, ◌≤◌}
+use Prim.Native.Nat.{ℕ, zero, suc, ◌+◌, ◌-◌, ◌<◌, ◌≤◌}
 use mathlib.Core.Path.{◌≡◌, refl, sym, ap, subst, ◌∙◌}
 use mathlib.Core.Bool.{Bool, true, false, cond, ◌&&◌, ◌||◌}
 use mathlib.Core.List.{List, [], ◌∷◌, ◌++◌, map, map-append}
 use native.Mathlib.Omega.{arith}
 use lib.Dec.{eqb, leb, ltb}
-use lib.ListN.{length, get_or, set, take, replicate, length-map}
-use borrow.Author.Tests.{ltb-true, ltb-false, le-ltb, eqb-true, eqb-false, eq-eqb, ne_eqb, leb-true}
+use lib.ListN.{length, get_or, take, replicate, length-map}
+use borrow.Author.Tests.{ltb-true, ltb-false, le-ltb, eqb-true, eqb-false, ne_eqb, leb-true}
 use Rattle.laws.specs.Lists.{every}
 use Rattle.laws.proofs.Conditions.{and_first, and_second, false_true}
-use Rattle.terms.specs.Answers.{number_of}
 use Rattle.terms.specs.declared.Answer.{Answer}
-use Rattle.terms.specs.declared.Answer.TheVariants.{Done, AreaTooSmall, NoSuchPanel, NoWPanel}
+use Rattle.terms.specs.declared.Answer.TheVariants.{Done, AreaTooSmall, NoSuchPanel}
 use Rattle.terms.specs.declared.GroupId.{GroupId}
 use Rattle.terms.specs.declared.UnitId.{UnitId}
 use Rattle.panels.specs.Valid.{ok_panel, distinct, in_use, valid}
@@ -20,15 +19,12 @@ use Rattle.panels.specs.declared.DisplayBox.{DisplayBox}
 use Rattle.box_rules.specs.Pairs.{ids_of, no_ids, gathered, ids_in, judged}
 use Rattle.box_rules.specs.declared.Ids.{Ids}
 use Rattle.box_rules.specs.declared.Judged.{Judged}
-use Rattle.steps.specs.Messages.{Message, notice, Name, nobody, name_of, names, on_link, is_w}
-use Rattle.steps.specs.Addressing.{is_pair, pair_number, by_tcp, target, is_called, addressed, any_called}
-use Rattle.steps.specs.Step.{with_panels, to_nobody, door, after_notice, after_notice_w, turn, nothing, panel_at, refused, step}
+use Rattle.steps.specs.Messages.{Message, Name, nobody, name_of, names, on_link}
+use Rattle.steps.specs.Addressing.{is_pair, pair_number, by_tcp, target, is_called, any_called}
+use Rattle.steps.specs.Step.{to_nobody, door, refused, step}
 use Rattle.steps.proofs.Door.{Lends, by_rs232c, by_kjw, by_tcp_lem, speaks, nobody_shut}
-use Rattle.steps.proofs.Turns.{Reaches}
-use Rattle.steps.proofs.Validity.{its_own}
-use Rattle.steps.proofs.Notified.{notice_refused}
 use Rattle.steps.proofs.Refusals.{too_small, no_such_panel}
-use Rattle.addresses.specs.Doors.{id_name, is_of, target_by, opened, opened_told}
+use Rattle.addresses.specs.Doors.{id_name, is_of, target_by, opened}
 use Rattle.addresses.specs.declared.Line.{Line}
 use Rattle.addresses.specs.declared.Line.TheVariants.{Rs232c, Kjw, Tcp}
 use Rattle.addresses.specs.declared.Door.{Door}
@@ -230,67 +226,3 @@ called_valid b m = go (valid b)
     go : (v : Bool) → any_called m (cond v (map name_of (in_use b)) []) ≡ true → v ≡ true
     go true e = refl
     go false e = absurd (false_true e)
-
--- ---- document 02, §9: a notice, by its door
-
-pub data ToldAt (b : DisplayBox) (t : Bool) (l : ℕ) : Door → Type 0 where
-  told_away : (a : Answer) → step b (notice t l) ≡ refused b (notice t l) a → ToldAt b t l (Shut a)
-  told_in : (i : ℕ) → step b (notice t l) ≡ record { box = with_panels b (set b.panels i (after_notice t (panel_at i b))); answer = Done; back = nothing } → ToldAt b t l (At i)
-
-told_done : (b : DisplayBox) (t : Bool) (l : ℕ) → is_w (on_link (names b) l) ≡ true → door (names b) (notice t l) ≡ Done
-unfolding door
-told_done b t l w = rw w
-
--- the panel on the link takes its turn
-told_turn : (b : DisplayBox) (t : Bool) (l : ℕ) → is_w (on_link (names b) l) ≡ true → step b (notice t l) ≡ record { box = with_panels b (set b.panels (l - 1) (after_notice t (panel_at (l - 1) b))); answer = Done; back = nothing }
-unfolding turn target addressed
-told_turn b t l w =
-    let k = inside Rs232c (names b) l w in
-    let f = names_fit b in
-    let here : eqb l (suc (l - 1)) ≡ true = eq-eqb l (suc (l - 1)) (omega (arith, k.0)) in
-    let r : Reaches b (notice t l) (l - 1) = record { passes = told_done b t l w; meant = here } in
-    let named : after_notice_w t (panel_at (l - 1) b) ≡ after_notice t (panel_at (l - 1) b) = rw (its_own r).1 in
-    one_turn b (notice t l) l tt (told_done b t l w) refl k.0 (omega (arith, k.1, f))
-    ∙ ap (λ (p : Panel). record { box = with_panels b (set b.panels (l - 1) p); answer = Done; back = nothing }) named
-
-told_at_lem : (b : DisplayBox) (t : Bool) (l : ℕ) (d : Door) → opened_told (names b) l ≡ d → ToldAt b t l d
-unfolding opened_told
-told_at_lem b t l d = go (is_w (on_link (names b) l)) refl
-  where
-    go : (w : Bool) → is_w (on_link (names b) l) ≡ w → cond w (At (l - 1)) (Shut NoWPanel) ≡ d → ToldAt b t l d
-    go true w e = subst (ToldAt b t l) e (told_in (l - 1) (told_turn b t l w))
-    go false w e = subst (ToldAt b t l) e (told_away NoWPanel (notice_refused b t l w))
-
-pub told_read : (b : DisplayBox) (t : Bool) (l : ℕ) (j : Judged) (d : Door) → j ≡ judged b → opened_told (map id_name j.ids) l ≡ d → ToldAt b t l d
-unfolding opened_told
-told_read b t l j d e o =
-    told_at_lem b t l d
-    (ap (λ (x : Name). cond (is_w x) (At (l - 1)) (Shut NoWPanel)) (sym (ap (λ (ns : List Name). on_link ns l) (names_read b j e) ∙ on_padded (names b) (padded b).0 l)) ∙ o)
-
-abbrev door_number : Door → ℕ
-door_number (Shut a) = 0
-door_number (At j) = suc j
-
-pub told_undone : (ns : List Name) (l : ℕ) (a : Answer) → opened_told ns l ≡ Shut a → eqb (number_of a) 0 ≡ false
-unfolding opened_told
-told_undone ns l a = go (is_w (on_link ns l))
-  where
-    answer_in : Door → ℕ
-    answer_in (Shut x) = number_of x
-    answer_in (At j) = 0
-
-    go : (w : Bool) → cond w (At (l - 1)) (Shut NoWPanel) ≡ Shut a → eqb (number_of a) 0 ≡ false
-    go true e = absurd (let q : ◌≡◌ {A = ℕ} (suc (l - 1)) 0 = ap door_number e in omega arith)
-    go false e = let q : ◌≡◌ {A = ℕ} 17 (number_of a) = ap answer_in e in ne_eqb (number_of a) 0 (λ z. omega (arith, q, z))
-
-pub told_place : (ids : List Ids) (l i : ℕ) → length ids ≡ 8 → opened_told (map id_name ids) l ≡ At i → i < 8
-unfolding opened_told
-told_place ids l i n = go (is_w (on_link (map id_name ids) l)) refl
-  where
-    go : (w : Bool) → is_w (on_link (map id_name ids) l) ≡ w → cond w (At (l - 1)) (Shut NoWPanel) ≡ At i → i < 8
-    go true w e =
-        let k = inside Rs232c (map id_name ids) l w in
-        let m = length-map ids id_name in
-        let q : ◌≡◌ {A = ℕ} (suc (l - 1)) (suc i) = ap door_number e in
-        omega (arith, k.0, k.1, m, n, q)
-    go false w e = absurd (let q : ◌≡◌ {A = ℕ} 0 (suc i) = ap door_number e in omega arith)

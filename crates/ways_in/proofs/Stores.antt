@@ -16,16 +16,15 @@ use Rattle.turns.specs.Turns.{Turn}
 use Rattle.panels.specs.Records.{past_end}
 use Rattle.panels.specs.declared.Panel.{Panel}
 use Rattle.panels.specs.declared.DisplayBox.{DisplayBox}
-use Rattle.steps.specs.Messages.{Message, rs232c, kjw, tcp, udp, notice, Name, names}
+use Rattle.steps.specs.Messages.{Message, rs232c, kjw, tcp, udp, Name, names}
 use Rattle.steps.specs.Addressing as addressing
 use Rattle.steps.specs.Addressing.{target, addressed, by_tcp, is_id}
-use Rattle.steps.specs.Step.{with_panels, door, after_notice_w, turn, Back, back_on, back, nothing, Outcome as Stepped, panel_at, passed, refused, step}
+use Rattle.steps.specs.Step.{with_panels, door, turn, Back, back_on, back, Outcome as Stepped, panel_at, passed, refused, step}
 use Rattle.addresses.specs.declared.Line.{Line}
 use Rattle.addresses.specs.declared.Line.TheVariants.{Rs232c, Kjw, Tcp}
 use Rattle.ways_in.specs.Promise.{Steps, message_of}
-use Rattle.panel_turns.specs.Acts.{Acts}
-use Rattle.ways_in.specs.Turns.{resting}
-use Rattle.panel_turns.specs.declared.Acted.{Acted}
+use Rattle.ways_in.specs.Turns.{Acts, resting}
+use Rattle.ways_in.specs.declared.Acted.{Acted}
 use Rattle.ways_in.specs.declared.Outcome.{Outcome}
 
 -- the promise, from the step's outcome
@@ -42,13 +41,12 @@ steps b m r area' o e p q s d t = record {
 pub refuses : (b : DisplayBox) (m : Message) (area : List ℕ) (a : Answer) (r : Outcome) → step b m ≡ refused b m a → r ≡ resting b a → back m [] ≡ record { len = 0; area = area } → Steps b m r area
 refuses b m area a r e f q = steps b m r area (refused b m a) e (ap (λ (x : Outcome). x.after) f) (ap (λ (x : Outcome). x.answer) f) (ap (λ (x : Outcome). x.len) f ∙ ap (λ (x : Back). x.len) (sym q)) (ap (λ (x : Outcome). x.done) f) (ap (λ (x : Back). x.area) (sym q))
 
--- a message with a link, and a notice, which has one too
+-- a message with a link
 abbrev pub Lent : Message → Type 0
 Lent (rs232c l m area) = Unit {0}
 Lent (kjw l m area) = Unit {0}
 Lent (tcp l m area) = Unit {0}
 Lent (udp m) = ⊥
-Lent (notice t l) = Unit {0}
 
 -- what one panel's turn makes of the box
 abbrev pub stored : DisplayBox → Message → ℕ → Stepped
@@ -62,12 +60,11 @@ one_store : (t : ℕ) (f : Panel → Panel) (ps : List Panel) → 1 ≤ t → t 
 one_store t f ps h k = each_one (λ (i : ℕ). eqb t (suc i)) f ps (t - 1) past_end (omega arith) (eq-eqb t (suc (t - 1)) (omega arith)) (λ j n. ne_eqb t (suc j) (λ e. n (omega arith)))
 
 passed_store : (b : DisplayBox) (m : Message) → Lent m → 1 ≤ target (names b) m → target (names b) m ≤ length b.panels → passed (names b) b m ≡ stored b m (target (names b) m - 1)
-unfolding addressed turn
+unfolding addressed
 passed_store b (rs232c l m area) n h k = ap (λ (ps : List Panel). record { box = with_panels b ps; answer = (turn (rs232c l m area) (panel_at (target (names b) (rs232c l m area) - 1) b)).answer; back = back (rs232c l m area) (turn (rs232c l m area) (panel_at (target (names b) (rs232c l m area) - 1) b)).reply }) (one_store (target (names b) (rs232c l m area)) (λ (p : Panel). (turn (rs232c l m area) p).after) b.panels h k)
 passed_store b (kjw l m area) n h k = ap (λ (ps : List Panel). record { box = with_panels b ps; answer = (turn (kjw l m area) (panel_at (target (names b) (kjw l m area) - 1) b)).answer; back = back (kjw l m area) (turn (kjw l m area) (panel_at (target (names b) (kjw l m area) - 1) b)).reply }) (one_store (target (names b) (kjw l m area)) (λ (p : Panel). (turn (kjw l m area) p).after) b.panels h k)
 passed_store b (tcp l m area) n h k = ap (λ (ps : List Panel). record { box = with_panels b ps; answer = (turn (tcp l m area) (panel_at (target (names b) (tcp l m area) - 1) b)).answer; back = back (tcp l m area) (turn (tcp l m area) (panel_at (target (names b) (tcp l m area) - 1) b)).reply }) (one_store (target (names b) (tcp l m area)) (λ (p : Panel). (turn (tcp l m area) p).after) b.panels h k)
 passed_store b (udp m) n h k = absurd n
-passed_store b (notice t l) n h k = ap (λ (ps : List Panel). record { box = with_panels b ps; answer = Done; back = nothing }) (one_store (target (names b) (notice t l)) (λ (p : Panel). after_notice_w t p) b.panels h k)
 
 -- a message that the door lets in is the turn of the panel it is meant for
 pub one_turn : (b : DisplayBox) (m : Message) (t : ℕ) → Lent m → door (names b) m ≡ Done → target (names b) m ≡ t → 1 ≤ t → t ≤ length b.panels → step b m ≡ stored b m (t - 1)

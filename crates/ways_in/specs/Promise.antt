@@ -3,15 +3,15 @@ use Rattle.std.specs.Prelude.{ℕ, ◌≡◌, List, eqb}
 use Rattle.terms.specs.Answers.{number_of}
 use Rattle.terms.specs.declared.Answer.{Answer}
 use Rattle.panels.specs.declared.DisplayBox.{DisplayBox}
-use Rattle.steps.specs.Messages.{Message, rs232c, kjw, tcp, udp, notice}
+use Rattle.steps.specs.Messages.{Message, rs232c, kjw, tcp, udp}
 use Rattle.steps.specs.Step.{Outcome as Stepped, step}
 use Rattle.addresses.specs.declared.Line.{Line}
 use Rattle.addresses.specs.declared.Line.TheVariants.{Rs232c, Kjw, Tcp}
 use Rattle.ways_in.specs.declared.Way.{Way}
-use Rattle.ways_in.specs.declared.Way.TheVariants.{By, Udp, Notice}
+use Rattle.ways_in.specs.declared.Way.TheVariants.{By, Udp}
 use Rattle.ways_in.specs.declared.Outcome.{Outcome}
 
--- the box after the message, the answer, the reply's length, whether the answer is 0, and the area; by UDP and for a notice the area is none
+-- the box after the message, the answer, the reply's length, whether the answer is 0, and the area; by UDP the area is none
 pub record Steps (b : DisplayBox) (m : Message) (r : Outcome) (area' : List ℕ) : Type 0 where
   pub after_is : r.after ≡ (step b m).box
   pub answer_is : r.answer ≡ (step b m).answer
@@ -36,14 +36,13 @@ pub record Came : Type 0 where
 abbrev pub with_area : Stepped → Came
 with_area o = record { box = o.box; answer = o.answer; len = o.back.len; area = o.back.area }
 
--- by UDP there is no reply, nor for a notice, and an area that is handed in with it keeps its bytes
+-- by UDP there is no reply, and an area that is handed in with it keeps its bytes
 abbrev pub unanswered : Stepped → List ℕ → Came
 unanswered o area = record { box = o.box; answer = o.answer; len = o.back.len; area = area }
 
 abbrev pub came_by : Way → DisplayBox → ℕ → List ℕ → List ℕ → Came
 came_by (By line) b l m area = with_area (step b (message_of line l m area))
 came_by Udp b l m area = unanswered (step b (udp m)) area
-came_by (Notice busy) b l m area = unanswered (step b (notice busy l)) area
 
 -- the answer says whether it was done
 abbrev pub outcome_of : Came → Outcome

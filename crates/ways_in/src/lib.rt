@@ -1,26 +1,27 @@
 // The box: a message by its way in, and each is the one step of crates/steps (document 01, "The box and its messages").
-ghost use Rattle.std.specs.Prelude.{◌≡◌, false, not, ◌&&◌, ◌||◌, [], ◌<◌, ◌≤◌, eqb, set};
+ghost use Rattle.std.specs.Prelude.{◌≡◌, false, [], ◌<◌, ◌≤◌, eqb, set};
+ghost use Rattle.laws.specs.Runs.{first_each};
 ghost use Rattle.terms.specs.Answers.{number_of};
 ghost use Rattle.steps.specs.Messages as messages;
-ghost use Rattle.steps.specs.Step.{with_panels, panel_at, turn};
-ghost use Rattle.panel_turns.specs.Acts.{Acts};
+ghost use Rattle.steps.specs.Step.{with_w, with_panels, panel_at, turn};
+ghost use Rattle.vmc.specs.Orders.{carried};
 ghost use Rattle.ways_in.specs.Promise.{Steps, message_of, outcome_of, came_by};
-ghost use Rattle.ways_in.specs.Turns.{resting, cast_to, told_at};
+ghost use Rattle.ways_in.specs.Turns.{Acts, resting, heeded};
 
-use addresses::{Door, Line, any_called, door_of, is_called, notice_door, to_nobody};
+use addresses::{Door, Line, any_called, door_of, is_called, to_nobody};
 use box_rules::{called_by, judge};
-use panel_turns::{Acted, act_kjw, act_rs232c, act_tcp, heed, tell};
 use panels::{DisplayBox, Panel};
+use sdcp::take_packet;
 use sdcp_asks::{Heard, hear_cast};
 use terms::Answer;
+use vmc::obey;
 use vmc_asks::Order;
 
-// The ways in: those that have a link and a reply area, UDP, and what the host tells: that a W panel becomes busy (true) or free.
+// The ways in: those that have a link and a reply area, and UDP.
 #[derive(Drop)]
 pub enum Way {
     By(Line),
     Udp,
-    Notice(bool),
 }
 
 // What a message did: the box after it, the answer, the reply's length, and whether the answer is 0: a refusal has nothing to store.
@@ -30,6 +31,14 @@ pub struct Outcome {
     pub answer: Answer,
     pub len: usize,
     pub done: bool,
+}
+
+// What a message did to its panel.
+#[derive(Drop)]
+struct Acted {
+    after: Panel,
+    answer: Answer,
+    len: usize,
 }
 
 // The answer is 0. It is asked which answer it is, and not for its number: so nothing stands between a record and the outcome that it goes into.
@@ -47,9 +56,6 @@ fn is_done(a: Answer) -> bool
         Answer::BadConfiguration => false,
         Answer::StatusByBroadcast => false,
         Answer::PartWrong(_) => false,
-        Answer::LineFull => false,
-        Answer::Busy => false,
-        Answer::NoWPanel => false,
     }
 }
 
@@ -88,6 +94,60 @@ fn with_panel(b: DisplayBox, i: usize, p: Panel) -> DisplayBox
     x
 }
 
+// A frame on the RS-232C port of a panel.
+fn act_rs232c(p: Panel, m: &[u8], area: &mut [u8]) -> Acted
+    ensures { Acts (turn (messages.rs232c 0 m.now area.old) p) area.old result area.new }
+{
+    let w = p.w;
+    let t = rs232c::take_frame(w, m, area);
+    let next = t.after;
+    let answer = t.answer;
+    let len = t.len;
+    let mut q = p;
+    q.w = next;
+    Acted {
+        after: q,
+        answer,
+        len,
+    }
+}
+
+// A frame on the KJW link of a panel.
+fn act_kjw(p: Panel, m: &[u8], area: &mut [u8]) -> Acted
+    ensures { Acts (turn (messages.kjw 0 m.now area.old) p) area.old result area.new }
+{
+    let k = p.k;
+    let t = kjw::take_frame(k, m, area);
+    let next = t.after;
+    let answer = t.answer;
+    let len = t.len;
+    let mut q = p;
+    q.k = next;
+    Acted {
+        after: q,
+        answer,
+        len,
+    }
+}
+
+// A packet by TCP to a panel.
+fn act_tcp(p: Panel, m: &[u8], area: &mut [u8]) -> Acted
+    ensures { Acts (turn (messages.tcp 0 m.now area.old) p) area.old result area.new }
+{
+    let w = p.w;
+    let t = take_packet(w, m, area);
+    let next = t.after;
+    let answer = t.answer;
+    let len = t.len;
+    let mut q = p;
+    q.w = next;
+    Acted {
+        after: q,
+        answer,
+        len,
+    }
+}
+
 // A panel's turn.
 fn act(line: Line, p: Panel, m: &[u8], area: &mut [u8]) -> Acted
     ensures { Acts (turn (message_of line 0 m.now area.old) p) area.old result area.new }
@@ -124,50 +184,33 @@ fn take_linked(b: DisplayBox, line: Line, link: usize, m: &[u8], area: &mut [u8]
     }
 }
 
-// One more panel took it, or did not drop it.
-fn took_too(took: bool, dropped: bool) -> bool
-    ensures { result ≡ (took || not dropped) }
+// A panel after an order.
+fn obeyed(o: Order, p: Panel) -> Panel
+    ensures { result ≡ with_w p (carried o p.w) }
 {
-    if took {
-        return true;
-    }
-    !dropped
+    let w = p.w;
+    let next = obey(w, o);
+    let mut q = p;
+    q.w = next;
+    q
 }
 
-// The order obeyed by each panel in use that is called: 0 if any took it, else 15 and the box as it was.
-fn obey_all(b: DisplayBox, ps: [Panel; 8], m: &[u8], o: Order) -> Outcome
-    requires { (b.count ≤ 8) × (ps ≡ b.panels) }
-    ensures { result ≡ cast_to b m.now o }
+// The order carried out on each of the first n panels that is called.
+fn obey_all(m: &[u8], o: Order, ps: [Panel; 8], n: usize) -> [Panel; 8]
+    requires { n ≤ 8 }
+    ensures { result ≡ first_each (heeded m.now o) n ps }
 {
     let mut qs = ps;
-    let n = b.count;
-    let mut took = false;
     let mut i = 0;
     while i < n {
         let p = qs[i];
         if is_called(m, called_by(p)) {
-            let t = heed(o, p);
-            let q = t.after;
-            let dropped = t.dropped;
+            let q = obeyed(o, p);
             qs[i] = q;
-            took = took_too(took, dropped);
         }
         i += 1;
     }
-    if !took {
-        return refused(b, Answer::LineFull);
-    }
-    let after = DisplayBox {
-        count: n,
-        panels: qs,
-    };
-    let len = 0;
-    Outcome {
-        after,
-        answer: Answer::Done,
-        len,
-        done: true,
-    }
+    qs
 }
 
 // A packet by UDP: every panel that is called obeys, and there is no reply.
@@ -185,40 +228,20 @@ fn take_udp(b: DisplayBox, m: &[u8]) -> Outcome
         Heard::NotUnderstood => refused(b, Answer::NotUnderstood),
         Heard::Understood(o) => {
             let ps = b.panels;
-            obey_all(b, ps, m, o)
+            let qs = obey_all(m, o, ps, b.count);
+            let mut x = b;
+            x.panels = qs;
+            Outcome {
+                after: x,
+                answer: Answer::Done,
+                len: 0,
+                done: true,
+            }
         }
     }
 }
 
-// The panel at place i is told.
-fn tell_at(b: DisplayBox, busy: bool, i: usize) -> Outcome
-    requires { i < 8 }
-    ensures { result ≡ told_at b busy i }
-{
-    let p = panel_at(b, i);
-    let q = tell(busy, p);
-    let after = with_panel(b, i, q);
-    Outcome {
-        after,
-        answer: Answer::Done,
-        len: 0,
-        done: true,
-    }
-}
-
-// What the host tells of the panel on a link: 17 where that is no W panel.
-fn take_notice(b: DisplayBox, busy: bool, link: usize) -> Outcome
-    ensures { Steps b (messages.notice busy link) result [] }
-{
-    let j = judge(b);
-    let ids = j.ids;
-    match notice_door(ids, link) {
-        Door::Shut(answer) => refused(b, answer),
-        Door::At(i) => tell_at(b, busy, i),
-    }
-}
-
-// A message by its way in: for scripts and for C. By UDP the link says nothing, and the area keeps its bytes; so it does for a notice, which has no bytes.
+// A message by its way in: for scripts and for C. By UDP the link says nothing, and the area keeps its bytes.
 pub fn take(b: DisplayBox, way: Way, link: usize, m: &[u8], area: &mut [u8]) -> Outcome
     ensures { (result ≡ outcome_of (came_by way b link m.now area.old))
         × (area.new ≡ (came_by way b link m.now area.old).area) }
@@ -226,6 +249,5 @@ pub fn take(b: DisplayBox, way: Way, link: usize, m: &[u8], area: &mut [u8]) -> 
     match way {
         Way::By(line) => take_linked(b, line, link, m, area),
         Way::Udp => take_udp(b, m),
-        Way::Notice(busy) => take_notice(b, busy, link),
     }
 }

@@ -3,10 +3,6 @@
 //! Makes a box of eight panels, reads one order in the words of docs/SCRIPTS.md, and makes its call
 //! so many times, with nothing else in the loop. Prints how many calls, the nanoseconds that the
 //! loop took, and what the last call gave. `scripts/calls.c` is the same for the box.
-//!
-//! Orders that make the box ready may stand before it, each with its own number of times and a `;`
-//! behind it. Then the loop puts the ready box back before each call; with no order behind the last
-//! `;` it does that alone, so that its cost can be taken off.
 
 use std::env;
 use std::hint::black_box;
@@ -15,7 +11,6 @@ use std::time::Instant;
 
 use second::advert::{self, Wanted};
 use second::answer::Answer;
-use second::busy::{tell, Notice};
 use second::config::{configure, DisplayBox};
 use second::message::{receive, Way};
 use second::script::answer_text;
@@ -32,7 +27,7 @@ fn main() -> ExitCode {
             ExitCode::SUCCESS
         }
         None => {
-            eprintln!("usage: calls TIMES [TIMES ORDER.. ;].. ORDER.., an order being rs232, kjw, tcp, udp, busy, free, advert or write with its words");
+            eprintln!("usage: calls TIMES ORDER.., the order being rs232, kjw, tcp, udp, advert or write with its words");
             ExitCode::from(2)
         }
     }
@@ -40,63 +35,22 @@ fn main() -> ExitCode {
 
 /// The line to print; nothing where the words are no order.
 fn run(words: &[&str]) -> Option<String> {
-    let [times, words @ ..] = words else {
+    let [times, order @ ..] = words else {
         return None;
     };
-    let mut orders: Vec<&[&str]> = words.split(|word| *word == ";").collect();
-    let last = orders.pop()?;
-    let mut bench = Bench {
-        held: eight_panels()?,
-        is_put_back: false,
-    };
-    for order in &orders {
-        let [times, order @ ..] = order else {
-            return None;
-        };
-        carry_out(times, &mut bench, order)?;
-    }
-    bench.is_put_back = !orders.is_empty();
-    carry_out(times, &mut bench, last)
-}
-
-fn carry_out(times: &str, bench: &mut Bench, order: &[&str]) -> Option<String> {
     let times: u32 = times.parse().ok().filter(|times| *times > 0)?;
     match order {
-        [] if bench.is_put_back => Some(put_back(times, bench)),
-        ["udp", bytes] => by_udp(times, bench, &hex(bytes)?),
-        ["busy", link] => notice(times, bench, link.parse().ok()?, Notice::Busy),
-        ["free", link] => notice(times, bench, link.parse().ok()?, Notice::Free),
+        ["udp", bytes] => by_udp(times, &hex(bytes)?),
         ["advert", bytes] => read_advert(times, &hex(bytes)?),
         ["write", area, fields @ ..] => write_advert(times, area.parse().ok()?, fields),
         [way, link, area, bytes] => on_a_link(
             times,
-            bench,
             way,
             link.parse().ok()?,
             area.parse().ok()?,
             &hex(bytes)?,
         ),
         _ => None,
-    }
-}
-
-/// The box, and whether it is put back before each call to what it is at the first one.
-struct Bench {
-    held: DisplayBox,
-    is_put_back: bool,
-}
-
-impl Bench {
-    fn repeated<T>(&mut self, times: u32, mut call: impl FnMut(&mut DisplayBox) -> T) -> (u128, T) {
-        let held = &mut self.held;
-        if !self.is_put_back {
-            return repeated(times, || call(held));
-        }
-        let ready = held.clone();
-        repeated(times, || {
-            *held = ready.clone();
-            call(held)
-        })
     }
 }
 
@@ -115,46 +69,27 @@ fn eight_panels() -> Option<DisplayBox> {
     (answer == Answer::CarriedOut).then_some(held)
 }
 
-fn put_back(times: u32, bench: &mut Bench) -> String {
-    let (took, ()) = bench.repeated(times, |held| {
-        black_box(held);
-    });
-    format!("{times} {took} put back")
-}
-
-fn on_a_link(
-    times: u32,
-    bench: &mut Bench,
-    way: &str,
-    link: u32,
-    area: usize,
-    bytes: &[u8],
-) -> Option<String> {
+fn on_a_link(times: u32, way: &str, link: u32, area: usize, bytes: &[u8]) -> Option<String> {
+    let mut held = eight_panels()?;
     let mut lent = vec![0; area];
     let area = lent.as_mut_slice();
     // The way in is told apart outside the loop: a match in it would be the caller's cost.
     let (took, outcome) = match way {
-        "rs232" => bench.repeated(times, |held| {
-            receive(held, Way::Rs232c { link, area }, bytes)
+        "rs232" => repeated(times, || {
+            receive(&mut held, Way::Rs232c { link, area }, bytes)
         }),
-        "kjw" => bench.repeated(times, |held| receive(held, Way::Kjw { link, area }, bytes)),
-        "tcp" => bench.repeated(times, |held| receive(held, Way::Tcp { link, area }, bytes)),
+        "kjw" => repeated(times, || receive(&mut held, Way::Kjw { link, area }, bytes)),
+        "tcp" => repeated(times, || receive(&mut held, Way::Tcp { link, area }, bytes)),
         _ => return None,
     };
     let told = told(times, took, outcome.answer, outcome.place);
     Some(with_reply(told, &lent[..outcome.written]))
 }
 
-fn by_udp(times: u32, bench: &mut Bench, bytes: &[u8]) -> Option<String> {
-    let (took, outcome) = bench.repeated(times, |held| receive(held, Way::Udp, bytes));
+fn by_udp(times: u32, bytes: &[u8]) -> Option<String> {
+    let mut held = eight_panels()?;
+    let (took, outcome) = repeated(times, || receive(&mut held, Way::Udp, bytes));
     Some(told(times, took, outcome.answer, outcome.place))
-}
-
-/// Where the box is not put back, only the first one can change it: told again, a notice changes
-/// nothing (document 02, §9).
-fn notice(times: u32, bench: &mut Bench, link: u32, notice: Notice) -> Option<String> {
-    let (took, answer) = bench.repeated(times, |held| tell(held, link, notice));
-    Some(told(times, took, answer, 0))
 }
 
 /// The fields are made too, and seen to be used; only the answer is printed, as for the box.
@@ -255,36 +190,9 @@ mod tests {
             ("udp 030B534F4E59FFFF00B00001F4", "answer 11 at 11"),
             ("udp 030B534F4E59FFFF00B0000000", "answer 6"),
             ("advert 00", "answer 3"),
-            // Link 7 is the K panel's (document 02, §9).
-            ("busy 1", "answer 0"),
-            ("busy 7", "answer 17"),
-            ("free 8", "answer 0"),
-            ("free 4294967295", "answer 17"),
         ] {
             assert_eq!(told(order).as_deref(), Some(text), "{order}");
         }
         assert_eq!(told("show 1"), None);
-        assert_eq!(told(""), None);
-        assert_eq!(told("busy"), None);
-        assert_eq!(told("free 4294967296"), None);
-    }
-
-    // Seven sets wait, and an eighth is taken each time, so the box is put back; with eight it is not.
-    #[test]
-    fn a_box_that_is_made_ready() {
-        let set = "tcp 1 512 030B534F4E59000000B00000115354415473657420564F4C554D45203430";
-        let ok = "answer 0 reply 030B534F4E59000001B0000000";
-        let ng = "answer 15 reply 030B534F4E59000000B0000002F050";
-        for (order, text) in [
-            (format!("1 busy 1 ; 7 {set} ; {set}"), ok),
-            (format!("1 busy 1 ; 8 {set} ; {set}"), ng),
-            (format!("1 busy 1 ; 8 {set} ; free 1"), "answer 0"),
-            (format!("1 busy 1 ; 8 {set} ;"), "put back"),
-        ] {
-            assert_eq!(told(&order).as_deref(), Some(text), "{order}");
-        }
-        assert_eq!(told("busy 1 ; free 1"), None);
-        assert_eq!(told("1 busy 1 ; ; free 1"), None);
-        assert_eq!(told("0 busy 1 ; free 1"), None);
     }
 }

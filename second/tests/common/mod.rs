@@ -1,7 +1,6 @@
 //! What the tests share: messages made by hand, and a box to send them to.
 #![allow(dead_code)]
 
-use second::busy::{tell, Notice};
 use second::config::{configure, DisplayBox};
 use second::message::{receive, Outcome, Way};
 use second::panel::{KSettings, Settings, WSettings};
@@ -130,22 +129,6 @@ pub fn udp_at(held: &mut DisplayBox, bytes: &[u8]) -> (u8, usize) {
     let outcome = receive(held, Way::Udp, bytes);
     assert_eq!(outcome.written, 0);
     (outcome.answer.number(), outcome.place)
-}
-
-/// The number that a notice of the host has (document 02, §9).
-pub fn busy(held: &mut DisplayBox, link: u32) -> u8 {
-    tell(held, link, Notice::Busy).number()
-}
-
-/// As [`busy`].
-pub fn free(held: &mut DisplayBox, link: u32) -> u8 {
-    tell(held, link, Notice::Free).number()
-}
-
-/// Whether the panel is busy, and how many sets wait there.
-pub fn line(held: &DisplayBox, link: usize) -> (bool, usize) {
-    let busy = &held.panels[link - 1].busy;
-    (busy.mark, busy.line.len())
 }
 
 /// An RS-232C message from 41h with a right count and checksum.

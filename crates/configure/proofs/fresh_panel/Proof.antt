@@ -9,11 +9,8 @@ start-w-requires c κs = search rules
 start-k-requires : tie.Need-start-k-requires
 start-k-requires c κs = search rules
 
-free-line-requires : tie.Need-free-line-requires
-free-line-requires c κs = search rules
-
 returns : tie.Need-returns
-returns c = rw (c.before.before.start-w.ensures, c.before.start-k.ensures, c.free-line.ensures)
+returns c = rw (c.before.start-w.ensures, c.start-k.ensures)
 
 pub fresh-panel-spec : {M : Type 1} → statement M
-fresh-panel-spec = tie.close (tie.spec start-w-requires start-k-requires free-line-requires returns)
+fresh-panel-spec = tie.close (tie.spec start-w-requires start-k-requires returns)

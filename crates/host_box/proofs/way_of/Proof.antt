@@ -1,4 +1,4 @@
--- `way_of` asks the six numbers in turn.
+-- `way_of` asks the four numbers in turn.
 use mathlib.Core.Path.{sym}
 use borrow.Author.Tests.{eq-eqb, ne_eqb}
 use Rattle.host_box.specs.Called.{way_of}
@@ -23,15 +23,7 @@ returns-4 c = sym (rw (ne_eqb _ _ c.before.before.before.if1.false, ne_eqb _ _ c
 
 returns-5 : tie.Need-returns-5
 unfolding way_of
-returns-5 c = sym (rw (ne_eqb _ _ c.before.before.before.before.if1.false, ne_eqb _ _ c.before.before.before.if2.false, ne_eqb _ _ c.before.before.if3.false, ne_eqb _ _ c.before.if4.false, eq-eqb _ _ c.if5.true))
-
-returns-6 : tie.Need-returns-6
-unfolding way_of
-returns-6 c = sym (rw (ne_eqb _ _ c.before.before.before.before.before.if1.false, ne_eqb _ _ c.before.before.before.before.if2.false, ne_eqb _ _ c.before.before.before.if3.false, ne_eqb _ _ c.before.before.if4.false, ne_eqb _ _ c.before.if5.false, eq-eqb _ _ c.if6.true))
-
-returns-7 : tie.Need-returns-7
-unfolding way_of
-returns-7 c = sym (rw (ne_eqb _ _ c.before.before.before.before.before.if1.false, ne_eqb _ _ c.before.before.before.before.if2.false, ne_eqb _ _ c.before.before.before.if3.false, ne_eqb _ _ c.before.before.if4.false, ne_eqb _ _ c.before.if5.false, ne_eqb _ _ c.if6.false))
+returns-5 c = sym (rw (ne_eqb _ _ c.before.before.before.if1.false, ne_eqb _ _ c.before.before.if2.false, ne_eqb _ _ c.before.if3.false, ne_eqb _ _ c.if4.false))
 
 pub way-of-spec : {M : Type 1} → statement M
-way-of-spec = tie.close (tie.spec returns returns-2 returns-3 returns-4 returns-5 returns-6 returns-7)
+way-of-spec = tie.close (tie.spec returns returns-2 returns-3 returns-4 returns-5)

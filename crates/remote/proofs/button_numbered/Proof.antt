@@ -1,12 +1,11 @@
--- `button_numbered` reads the code's table, which is computed to be the buttons; beyond its end there is none.
+-- `button_numbered` reads the table of buttons, and beyond its end there is none.
 use Prim.Native.Nat.{◌≤◌}
-use mathlib.Core.Path.{refl, sym}
+use mathlib.Core.Path.{sym}
 use native.Mathlib.Omega.{arith}
 use borrow.Author.Rules.{rules}
 use lib.ListN.{length, get_or-eq_default}
-use Rattle.remote.specs.Buttons.{buttons, button_numbered}
+use Rattle.remote.specs.Buttons.{buttons}
 use Rattle.remote.specs.declared.Button.TheVariants.{Unlisted}
-use Rattle.remote.proofs.Rules.{at_place}
 use Rattle.remote.proofs.button_numbered.Statement.{statement}
 use Rattle.remote.proofs.button_numbered.Tie as tie
 
@@ -17,7 +16,7 @@ array-copy-out-result : tie.Need-array-copy-out-result
 array-copy-out-result c = search rules
 
 returns : tie.Need-returns
-returns c = at_place _ button_numbered c.before.before.args.act refl (λ k e y q. rw e at q) c.before.if1.true refl
+returns c = search rules
 
 returns-2 : tie.Need-returns-2
 returns-2 c = let h : length buttons ≤ c.before.args.act = omega arith in sym (get_or-eq_default buttons Unlisted h)

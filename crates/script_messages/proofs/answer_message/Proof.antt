@@ -59,7 +59,7 @@ returns c =
     let n = c.before.before.before.before.before.before.before.before.number_at in
     let h = room a.line.now n.ensures in
     let e = carried_same a.b a.by c.before.before.before.before.before.before.before.number-at2.ensures (front c.before.before.before.before.before.before.before.before.before.bytes-at.ensures) (throughout n.result 1024 165 h ∙ ap (λ (k : ℕ). replicate k 165) n.ensures) in
-    subst (λ (o : Effect). Answers o r.result a.out.now r.new.1.1.1.1.1.0) e r.ensures.0
+    subst (λ (o : Effect). Answers o r.result a.out.now r.new.1.1.1.1.1.0) e r.ensures
 
 pub answer-message-spec : {M : Type 1} → statement M
 answer-message-spec =

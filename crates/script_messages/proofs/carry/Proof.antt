@@ -23,8 +23,7 @@ returns c =
     let a = c.before.before.before.before.before.before.before.before.before.before.before.before.before.args in
     let r = c.before.before.say-reply in
     let t = c.before.before.before.before.before.before.before.before.take in
-    let s = linked_steps a.b a.line a.link a.m.now a.area.now t.result _ t.ensures in
-    (subst (λ (o : Effect). Answers o r.result a.out.now r.new.1.1.1.1.0) (carried_text s) r.ensures, s.area_is)
+    subst (λ (o : Effect). Answers o r.result a.out.now r.new.1.1.1.1.0) (carried_text (linked_steps a.b a.line a.link a.m.now a.area.now t.result _ t.ensures)) r.ensures
 
 pub carry-spec : {M : Type 1} → statement M
 carry-spec =

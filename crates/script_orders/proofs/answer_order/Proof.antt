@@ -61,41 +61,29 @@ answer-udp-requires c κs = search rules
 enum-told-8 : tie.Need-enum-told-8
 enum-told-8 c = search rules
 
-answer-notice-requires : tie.Need-answer-notice-requires
-answer-notice-requires c κs = search rules
+answer-show-requires : tie.Need-answer-show-requires
+answer-show-requires c κs = search rules
 
 enum-told-9 : tie.Need-enum-told-9
 enum-told-9 c = search rules
 
-answer-notice-requires-2 : tie.Need-answer-notice-requires-2
-answer-notice-requires-2 c κs = search rules
+answer-advert-requires : tie.Need-answer-advert-requires
+answer-advert-requires c κs = search rules
 
 enum-told-10 : tie.Need-enum-told-10
 enum-told-10 c = search rules
 
-answer-show-requires : tie.Need-answer-show-requires
-answer-show-requires c κs = search rules
+answer-write-requires : tie.Need-answer-write-requires
+answer-write-requires c κs = search rules
 
 enum-told-11 : tie.Need-enum-told-11
 enum-told-11 c = search rules
 
-answer-advert-requires : tie.Need-answer-advert-requires
-answer-advert-requires c κs = search rules
-
-enum-told-12 : tie.Need-enum-told-12
-enum-told-12 c = search rules
-
-answer-write-requires : tie.Need-answer-write-requires
-answer-write-requires c κs = search rules
-
-enum-told-13 : tie.Need-enum-told-13
-enum-told-13 c = search rules
-
 answer-sum-requires : tie.Need-answer-sum-requires
 answer-sum-requires c κs = search rules
 
-enum-told-14 : tie.Need-enum-told-14
-enum-told-14 c = search rules
+enum-told-12 : tie.Need-enum-told-12
+enum-told-12 c = search rules
 
 answer-plain-requires : tie.Need-answer-plain-requires
 answer-plain-requires c κs = search rules
@@ -153,49 +141,35 @@ same-length-7 c = search rules
 
 returns-8 : tie.Need-returns-8
 unfolding ordered
-returns-8 c = let a = c.before.before.before.before.before.before.before.before.args in by_order a.b a.line.now c.before.before.before.before.enum-told8.given.1 c.before.before.answer-notice.ensures
+returns-8 c = let a = c.before.before.before.before.before.before.before.before.args in by_order a.b a.line.now c.before.before.before.before.enum-told8.given.1 c.before.before.answer-show.ensures
 
 same-length-8 : tie.Need-same-length-8
 same-length-8 c = search rules
 
 returns-9 : tie.Need-returns-9
 unfolding ordered
-returns-9 c = let a = c.before.before.before.before.before.before.before.before.args in by_order a.b a.line.now c.before.before.before.before.enum-told9.given.1 c.before.before.answer-notice2.ensures
+returns-9 c = let a = c.before.before.before.before.before.before.before.before.args in by_order a.b a.line.now c.before.before.before.before.enum-told9.given.1 c.before.before.answer-advert.ensures
 
 same-length-9 : tie.Need-same-length-9
 same-length-9 c = search rules
 
 returns-10 : tie.Need-returns-10
 unfolding ordered
-returns-10 c = let a = c.before.before.before.before.before.before.before.before.args in by_order a.b a.line.now c.before.before.before.before.enum-told10.given.1 c.before.before.answer-show.ensures
+returns-10 c = let a = c.before.before.before.before.before.before.before.before.args in by_order a.b a.line.now c.before.before.before.before.enum-told10.given.1 c.before.before.answer-write.ensures
 
 same-length-10 : tie.Need-same-length-10
 same-length-10 c = search rules
 
 returns-11 : tie.Need-returns-11
 unfolding ordered
-returns-11 c = let a = c.before.before.before.before.before.before.before.before.args in by_order a.b a.line.now c.before.before.before.before.enum-told11.given.1 c.before.before.answer-advert.ensures
+returns-11 c = let a = c.before.before.before.before.before.before.before.before.args in by_order a.b a.line.now c.before.before.before.before.enum-told11.given.1 c.before.before.answer-sum.ensures
 
 same-length-11 : tie.Need-same-length-11
 same-length-11 c = search rules
 
 returns-12 : tie.Need-returns-12
 unfolding ordered
-returns-12 c = let a = c.before.before.before.before.before.before.before.before.args in by_order a.b a.line.now c.before.before.before.before.enum-told12.given.1 c.before.before.answer-write.ensures
-
-same-length-12 : tie.Need-same-length-12
-same-length-12 c = search rules
-
-returns-13 : tie.Need-returns-13
-unfolding ordered
-returns-13 c = let a = c.before.before.before.before.before.before.before.before.args in by_order a.b a.line.now c.before.before.before.before.enum-told13.given.1 c.before.before.answer-sum.ensures
-
-same-length-13 : tie.Need-same-length-13
-same-length-13 c = search rules
-
-returns-14 : tie.Need-returns-14
-unfolding ordered
-returns-14 c = let a = c.before.before.before.before.before.before.before.before.args in by_order a.b a.line.now c.before.before.before.before.enum-told14.given.1 c.before.before.answer-plain.ensures
+returns-12 c = let a = c.before.before.before.before.before.before.before.before.args in by_order a.b a.line.now c.before.before.before.before.enum-told12.given.1 c.before.before.answer-plain.ensures
 
 pub answer-order-spec : {M : Type 1} → statement M
 answer-order-spec =
@@ -216,18 +190,14 @@ answer-order-spec =
     enum-told-7
     answer-udp-requires
     enum-told-8
-    answer-notice-requires
-    enum-told-9
-    answer-notice-requires-2
-    enum-told-10
     answer-show-requires
-    enum-told-11
+    enum-told-9
     answer-advert-requires
-    enum-told-12
+    enum-told-10
     answer-write-requires
-    enum-told-13
+    enum-told-11
     answer-sum-requires
-    enum-told-14
+    enum-told-12
     answer-plain-requires
     returns
     same_length
@@ -251,8 +221,4 @@ answer-order-spec =
     same-length-10
     returns-11
     same-length-11
-    returns-12
-    same-length-12
-    returns-13
-    same-length-13
-    returns-14)
+    returns-12)

@@ -69,7 +69,7 @@ add-t25 c =
     let x = c.before.before.before.before.before in
     let y = x.before.before.before.before.before in
     let z = y.before.before.before.before.before in
-    let h = fits z.put-bytes-text.ensures y.put.ensures x.carry.ensures.0.text_is in
+    let h = fits z.put-bytes-text.ensures y.put.ensures x.carry.ensures.text_is in
     omega (arith, h, z.before.before.before.before.before.well-formed.1.1.1.1.0.0)
 
 same_length : tie.Need-same-length
@@ -82,7 +82,7 @@ returns c =
     let y = x.before.before.before.before.before in
     let z = y.before.before.before.before.before in
     let a = z.before.before.before.before.before.args in
-    let o = x.carry.ensures.0 in
+    let o = x.carry.ensures in
     let lent = ap (λ (l : List ℕ). step a.b (packet_message a.link l a.packet.now)) (throughout a.room 1024 165 z.before.before.before.before.before.requires) in
     record {
       box_is = o.box_is ∙ ap (λ (s : Outcome). s.box) lent;

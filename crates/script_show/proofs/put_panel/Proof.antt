@@ -1,8 +1,7 @@
--- `put_panel` asks the family, as the definition does, and puts what is said of a busy panel behind its record.
+-- `put_panel` asks the family, as the definition does.
 use borrow.Author.Rules.{rules}
 use borrow.Author.Tests.{eq-eqb, ne_eqb}
 use Rattle.panels.specs.Records.{family_w}
-use Rattle.script_text.proofs.Puts.{puts_then}
 use Rattle.script_show.specs.Shown.{panel_text}
 use Rattle.script_show.proofs.put_panel.Statement.{statement}
 use Rattle.script_show.proofs.put_panel.Tie as tie
@@ -10,19 +9,14 @@ use Rattle.script_show.proofs.put_panel.Tie as tie
 put-w-requires : tie.Need-put-w-requires
 put-w-requires c κs = search rules
 
-put-busy-requires : tie.Need-put-busy-requires
-put-busy-requires c κs = search rules
-
 same_length : tie.Need-same-length
 same_length c = search rules
 
 returns : tie.Need-returns
 unfolding panel_text
 returns c =
-    let busy = c.before.before in
-    let first = busy.before.before.before.before in
-    let t = first.before.before.before.before in
-    rw (eq-eqb t.before.before.before.args.p.family family_w t.if1.true) (puts_then first.put-w.ensures busy.put-busy.ensures)
+    let t = c.before.before.before.before.before in
+    rw (eq-eqb t.before.before.before.args.p.family family_w t.if1.true) c.before.before.put-w.ensures
 
 put-k-requires : tie.Need-put-k-requires
 put-k-requires c κs = search rules
@@ -38,4 +32,4 @@ returns-2 c =
 
 pub put-panel-spec : {M : Type 1} → statement M
 put-panel-spec =
-    tie.close (tie.spec put-w-requires put-busy-requires same_length returns put-k-requires same-length-2 returns-2)
+    tie.close (tie.spec put-w-requires same_length returns put-k-requires same-length-2 returns-2)

@@ -1,74 +1,118 @@
--- `take_packet` goes by the mark: the promise of each side is the promise of the whole.
+-- `take_packet` asks the area's size, then goes by what the packet asks; each case is the definition's.
 use Prim.Native.Nat.{ℕ}
 use mathlib.Core.Path.{◌≡◌, refl, sym, ap, subst, ◌∙◌}
-use mathlib.Core.Bool.{Bool, true, false, cond}
 use mathlib.Core.List.{List}
-use lib.Dec.{ltb}
-use lib.ListN.{length}
 use borrow.Author.Rules.{rules}
-use borrow.Author.Tests.{eq-eqb, ne_eqb}
+use native.Mathlib.Omega.{arith}
 use Rattle.laws.specs.Bytes.{Sent}
-use Rattle.terms.specs.declared.Answer.{Answer}
-use Rattle.terms.specs.declared.Answer.TheVariants.{AreaTooSmall}
-use Rattle.turns.specs.Turns.{Turn, left, taken, turn_with, Takes}
-use Rattle.panels.specs.Waits.{is_busy}
+use Rattle.turns.proofs.Turns.{takes_small, takes_turn}
 use Rattle.panels.specs.declared.WRecord.{WRecord}
-use Rattle.settling.specs.declared.Standing.{Standing}
+use Rattle.vmc_tells.specs.declared.Says.{Says}
 use Rattle.sdcp_asks.specs.Asks.{heard_of}
-use Rattle.sdcp.specs.Replies.{turned, turn_of}
-use Rattle.sdcp.specs.Busy.{while_busy, with_record, turned_at, turn_at}
+use Rattle.sdcp.specs.Replies.{bytes_of, turned, turn_of}
+use Rattle.sdcp_asks.specs.declared.Heard.{Heard}
+use Rattle.sdcp.specs.declared.Reply.TheVariants.{Ok}
+use Rattle.sdcp.proofs.Packets.{Long, heard_long}
 use Rattle.sdcp.proofs.take_packet.Statement.{statement}
 use Rattle.sdcp.proofs.take_packet.Tie as tie
 
-busy-turn : (room : ℕ) (m : List ℕ) (s : Standing) → is_busy s.line ≡ true → taken room (turn_at m) s ≡ taken room (while_busy m (heard_of m)) s
-unfolding taken turned_at
-busy-turn room m s b = rw b
+asked : (m : List ℕ) (w : WRecord) (a h : Heard) → a ≡ heard_of m → a ≡ h → turn_of m w ≡ turned m h w
+asked m w a h e f = ap (λ (x : Heard). turned m x w) (sym e ∙ f)
 
-free-turn : (room : ℕ) (m : List ℕ) (s : Standing) → is_busy s.line ≡ false → taken room (turn_at m) s ≡ turn_with (with_record s) (taken room (turn_of m) s.w)
-unfolding taken turned_at
-free-turn room m s b = rw b (go (ltb room 512))
-  where
-    go : (t : Bool) → cond t (left s AreaTooSmall) (turn_with (with_record s) (turned m (heard_of m) s.w)) ≡ turn_with (with_record s) (cond t (left s.w AreaTooSmall) (turned m (heard_of m) s.w))
-    go true = refl
-    go false = refl
+long : (m : List ℕ) (a h : Heard) → a ≡ heard_of m → a ≡ h → Long m h
+long m a h e f = subst (Long m) (sym e ∙ f) (heard_long m)
 
--- a promise of a turn that is the same for this panel
-alike : (area : List ℕ) (s y : Standing) (a : Answer) (n : ℕ) (z : List ℕ) (f : Standing → Turn Standing) (t : Turn Standing) → taken (length area) f s ≡ t → y ≡ t.after → a ≡ t.answer → Sent t.reply n area z → Takes f s area y a n z
-alike area s y a n z f t e p q r = record {
-  record_after = p ∙ ap (λ (u : Turn Standing). u.after) (sym e);
-  answer_given = q ∙ ap (λ (u : Turn Standing). u.answer) (sym e);
-  sends = subst (λ (u : Turn Standing). Sent u.reply n area z) (sym e) r;
-}
+returns : tie.Need-returns
+returns c =
+    let a = c.before.before.before.args in
+    takes_small (turn_of a.m.now) a.w a.area.now c.if1.true
 
-while_busy : (m area : List ℕ) (s y : Standing) (a : Answer) (n : ℕ) (z : List ℕ) → is_busy s.line ≡ true → Takes (while_busy m (heard_of m)) s area y a n z → Takes (turn_at m) s area y a n z
-while_busy m area s y a n z b t = alike area s y a n z (turn_at m) (taken (length area) (while_busy m (heard_of m)) s) (busy-turn (length area) m s b) t.record_after t.answer_given t.sends
+hear-requires : tie.Need-hear-requires
+hear-requires c κs = search rules
 
-while-free : (m area : List ℕ) (s : Standing) (w : WRecord) (a : Answer) (n : ℕ) (z : List ℕ) → is_busy s.line ≡ false → Takes (turn_of m) s.w area w a n z → Takes (turn_at m) s area (with_record s w) a n z
-while-free m area s w a n z b t = alike area s (with_record s w) a n z (turn_at m) (turn_with (with_record s) (taken (length area) (turn_of m) s.w)) (free-turn (length area) m s b) (ap (with_record s) t.record_after) t.answer_given t.sends
+enum-known-ask : tie.Need-enum-known-ask
+enum-known-ask c = search rules
 
-take-busy-requires : tie.Need-take-busy-requires
-take-busy-requires c κs = search rules
+enum-known-ask-2 : tie.Need-enum-known-ask-2
+enum-known-ask-2 c = search rules
+
+slice-aggregate-put-packet : tie.Need-slice-aggregate-put-packet
+slice-aggregate-put-packet c = search rules
+
+put-packet-requires : tie.Need-put-packet-requires
+put-packet-requires c κs = (long c.before.before.before.before.before.before.before.before.before.args.m.now c.before.before.before.before.before.hear.result _ c.before.before.before.before.before.hear.ensures c.before.before.before.ask2.given.1, omega arith, c.before.before.before.before.before.before.if1.false)
+
+enum_told : tie.Need-enum-told
+enum_told c = search rules
+
+put-ok-requires : tie.Need-put-ok-requires
+put-ok-requires c κs = (long c.before.before.before.before.before.before.before.args.m.now c.before.before.before.hear.result _ c.before.before.before.hear.ensures c.before.enum_told.given.1, c.before.before.before.before.if1.false)
+
+enum-known-ask-3 : tie.Need-enum-known-ask-3
+enum-known-ask-3 c = search rules
+
+obey-requires : tie.Need-obey-requires
+obey-requires c κs = search rules
+
+tell-requires : tie.Need-tell-requires
+tell-requires c κs = search rules
+
+put-ok-requires-2 : tie.Need-put-ok-requires-2
+put-ok-requires-2 c κs = (long c.before.before.before.before.before.before.before.before.before.before.args.m.now c.before.before.before.before.before.before.hear.result _ c.before.before.before.before.before.before.hear.ensures c.before.before.before.before.ask3.given.1, c.before.before.before.before.before.before.before.if1.false)
+
+returns-2 : tie.Need-returns-2
+unfolding turned
+returns-2 c =
+    let a = c.before.before.before.before.before.before.before.args in
+    takes_turn (turn_of a.m.now) a.w a.area.now _ _ _ _ _ c.before.before.before.before.if1.false (asked a.m.now a.w c.before.before.before.hear.result _ c.before.before.before.hear.ensures c.before.ask.given.1) refl refl (record { length_is = refl; area_is = refl })
 
 same_length : tie.Need-same-length
 same_length c = search rules
 
-returns : tie.Need-returns
-returns c =
-    let a = c.before.before.before.before.before.before.before.before.before.args in
-    while_busy a.m.now a.area.now a.s _ _ _ _ (eq-eqb _ _ c.before.before.before.before.if1.true) c.before.before.take-busy.ensures
-
-take-free-requires : tie.Need-take-free-requires
-take-free-requires c κs = search rules
+returns-3 : tie.Need-returns-3
+unfolding turned bytes_of
+returns-3 c =
+    let a = c.before.before.before.before.before.before.before.before.before.before.before.before.args in
+    takes_turn (turn_of a.m.now) a.w a.area.now _ _ _ _ _ c.before.before.before.before.before.before.before.before.before.if1.false (asked a.m.now a.w c.before.before.before.before.before.before.before.before.hear.result _ c.before.before.before.before.before.before.before.before.hear.ensures c.before.before.before.before.before.before.ask2.given.1) refl refl c.before.before.put-packet.ensures
 
 same-length-2 : tie.Need-same-length-2
 same-length-2 c = search rules
 
-returns-2 : tie.Need-returns-2
-returns-2 c =
-    let a = c.before.before.before.before.before.before.before.before.before.before.before.args in
-    while-free a.m.now a.area.now a.s _ _ _ _ (ne_eqb _ _ c.before.before.before.before.before.before.if1.false) c.before.before.before.take-free.ensures
+returns-4 : tie.Need-returns-4
+unfolding turned
+returns-4 c =
+    let a = c.before.before.before.before.before.before.before.before.before.before.args in
+    takes_turn (turn_of a.m.now) a.w a.area.now _ _ _ _ _ c.before.before.before.before.before.before.before.if1.false (asked a.m.now a.w c.before.before.before.before.before.before.hear.result _ c.before.before.before.before.before.before.hear.ensures c.before.before.before.before.enum_told.given.1) refl refl c.before.before.put-ok.ensures
+
+same-length-3 : tie.Need-same-length-3
+same-length-3 c = search rules
+
+returns-5 : tie.Need-returns-5
+unfolding turned
+returns-5 c =
+    let a = c.before.before.before.before.before.before.before.before.before.before.before.before.before.args in
+    takes_turn (turn_of a.m.now) a.w a.area.now _ _ _ _ _ c.before.before.before.before.before.before.before.before.before.before.if1.false (asked a.m.now a.w c.before.before.before.before.before.before.before.before.before.hear.result _ c.before.before.before.before.before.before.before.before.before.hear.ensures c.before.before.before.before.before.before.before.ask3.given.1) c.before.before.before.before.before.obey.ensures refl (subst (λ (t : Says). Sent (bytes_of a.m.now (Ok t)) c.before.before.put-ok2.result a.area.now c.before.before.put-ok2.new.1.1.0) c.before.before.before.before.tell.ensures c.before.before.put-ok2.ensures)
 
 pub take-packet-spec : {M : Type 1} → statement M
 take-packet-spec =
     tie.close
-    (tie.spec take-busy-requires same_length returns take-free-requires same-length-2 returns-2)
+    (tie.spec
+    returns
+    hear-requires
+    enum-known-ask
+    enum-known-ask-2
+    slice-aggregate-put-packet
+    put-packet-requires
+    enum_told
+    put-ok-requires
+    enum-known-ask-3
+    obey-requires
+    tell-requires
+    put-ok-requires-2
+    returns-2
+    same_length
+    returns-3
+    same-length-2
+    returns-4
+    same-length-3
+    returns-5)

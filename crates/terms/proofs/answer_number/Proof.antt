@@ -36,15 +36,6 @@ enum-known-a c = search rules
 part-number-requires : tie.Need-part-number-requires
 part-number-requires c κs = search rules
 
-enum-told-10 : tie.Need-enum-told-10
-enum-told-10 c = search rules
-
-enum-told-11 : tie.Need-enum-told-11
-enum-told-11 c = search rules
-
-enum-told-12 : tie.Need-enum-told-12
-enum-told-12 c = search rules
-
 returns : tie.Need-returns
 returns c = search rules
 
@@ -75,15 +66,6 @@ returns-9 c = search rules
 returns-10 : tie.Need-returns-10
 returns-10 c = search rules
 
-returns-11 : tie.Need-returns-11
-returns-11 c = search rules
-
-returns-12 : tie.Need-returns-12
-returns-12 c = search rules
-
-returns-13 : tie.Need-returns-13
-returns-13 c = search rules
-
 pub answer-number-spec : {M : Type 1} → statement M
 answer-number-spec =
     tie.close
@@ -99,9 +81,6 @@ answer-number-spec =
     enum-told-9
     enum-known-a
     part-number-requires
-    enum-told-10
-    enum-told-11
-    enum-told-12
     returns
     returns-2
     returns-3
@@ -111,7 +90,4 @@ answer-number-spec =
     returns-7
     returns-8
     returns-9
-    returns-10
-    returns-11
-    returns-12
-    returns-13)
+    returns-10)

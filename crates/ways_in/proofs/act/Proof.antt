@@ -7,8 +7,8 @@ use Rattle.panels.specs.declared.Panel.{Panel}
 use Rattle.steps.specs.Step.{turn}
 use Rattle.addresses.specs.declared.Line.{Line}
 use Rattle.ways_in.specs.Promise.{message_of}
-use Rattle.panel_turns.specs.Acts.{Acts}
-use Rattle.panel_turns.specs.declared.Acted.{Acted}
+use Rattle.ways_in.specs.Turns.{Acts}
+use Rattle.ways_in.specs.declared.Acted.{Acted}
 use Rattle.ways_in.proofs.act.Statement.{statement}
 use Rattle.ways_in.proofs.act.Tie as tie
 

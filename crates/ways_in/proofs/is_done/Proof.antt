@@ -51,15 +51,6 @@ enum-told-9 c = search rules
 enum-told-10 : tie.Need-enum-told-10
 enum-told-10 c = search rules
 
-enum-told-11 : tie.Need-enum-told-11
-enum-told-11 c = search rules
-
-enum-told-12 : tie.Need-enum-told-12
-enum-told-12 c = search rules
-
-enum-told-13 : tie.Need-enum-told-13
-enum-told-13 c = search rules
-
 returns : tie.Need-returns
 returns c = told _ _ c.enum_told.given.1
 
@@ -90,15 +81,6 @@ returns-9 c = told _ _ c.enum-told9.given.1
 returns-10 : tie.Need-returns-10
 returns-10 c = part-undone c.enum-told10.given.0.0 ∙ told _ _ c.enum-told10.given.1
 
-returns-11 : tie.Need-returns-11
-returns-11 c = told _ _ c.enum-told11.given.1
-
-returns-12 : tie.Need-returns-12
-returns-12 c = told _ _ c.enum-told12.given.1
-
-returns-13 : tie.Need-returns-13
-returns-13 c = told _ _ c.enum-told13.given.1
-
 pub is-done-spec : {M : Type 1} → statement M
 is-done-spec =
     tie.close
@@ -113,9 +95,6 @@ is-done-spec =
     enum-told-8
     enum-told-9
     enum-told-10
-    enum-told-11
-    enum-told-12
-    enum-told-13
     returns
     returns-2
     returns-3
@@ -125,7 +104,4 @@ is-done-spec =
     returns-7
     returns-8
     returns-9
-    returns-10
-    returns-11
-    returns-12
-    returns-13)
+    returns-10)

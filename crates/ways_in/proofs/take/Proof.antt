@@ -1,4 +1,4 @@
--- `take` is the message with a link, or the packet by UDP or the notice with the area left alone.
+-- `take` is the message with a link, or the packet by UDP with the area left alone.
 use Prim.Native.Nat.{ℕ}
 use mathlib.Core.Path.{◌≡◌, sym, ap, ◌∙◌}
 use mathlib.Core.Bool.{Bool}
@@ -6,11 +6,11 @@ use mathlib.Core.List.{List, []}
 use borrow.Author.Rules.{rules}
 use Rattle.terms.specs.declared.Answer.{Answer}
 use Rattle.panels.specs.declared.DisplayBox.{DisplayBox}
-use Rattle.steps.specs.Messages.{udp, notice}
+use Rattle.steps.specs.Messages.{udp}
 use Rattle.addresses.specs.declared.Line.{Line}
 use Rattle.ways_in.specs.Promise.{Steps, message_of, outcome_of, came_by}
 use Rattle.ways_in.specs.declared.Way.{Way}
-use Rattle.ways_in.specs.declared.Way.TheVariants.{By, Udp, Notice}
+use Rattle.ways_in.specs.declared.Way.TheVariants.{By, Udp}
 use Rattle.ways_in.specs.declared.Outcome.{Outcome}
 use Rattle.ways_in.proofs.take.Statement.{statement}
 use Rattle.ways_in.proofs.take.Tie as tie
@@ -35,12 +35,6 @@ alone way b l m area r e s = (
   ap (λ (w : Way). (came_by w b l m area).area) (sym e),
 )
 
-told : (way : Way) (t : Bool) (b : DisplayBox) (l : ℕ) (m area : List ℕ) (r : Outcome) → way ≡ Notice t → Steps b (notice t l) r [] → (r ≡ outcome_of (came_by way b l m area)) × (area ≡ (came_by way b l m area).area)
-told way t b l m area r e s = (
-  whole r _ _ _ _ s.after_is s.answer_is s.length_is s.done_is ∙ ap (λ (w : Way). outcome_of (came_by w b l m area)) (sym e),
-  ap (λ (w : Way). (came_by w b l m area).area) (sym e),
-)
-
 enum-known-way : tie.Need-enum-known-way
 enum-known-way c = search rules
 
@@ -52,12 +46,6 @@ enum_told c = search rules
 
 take-udp-requires : tie.Need-take-udp-requires
 take-udp-requires c κs = search rules
-
-enum-known-way-2 : tie.Need-enum-known-way-2
-enum-known-way-2 c = search rules
-
-take-notice-requires : tie.Need-take-notice-requires
-take-notice-requires c κs = search rules
 
 same_length : tie.Need-same-length
 same_length c = search rules
@@ -72,11 +60,6 @@ returns-2 c =
     let a = c.before.before.before.before.before.args in
     alone a.way a.b a.link a.m.now a.area.now _ c.before.enum_told.given.1 c.take-udp.ensures
 
-returns-3 : tie.Need-returns-3
-returns-3 c =
-    let a = c.before.before.before.before.before.before.args in
-    told a.way _ a.b a.link a.m.now a.area.now _ c.before.before.way2.given.1 c.take-notice.ensures
-
 pub take_spec : {M : Type 1} → statement M
 take_spec =
     tie.close
@@ -85,9 +68,6 @@ take_spec =
     take-linked-requires
     enum_told
     take-udp-requires
-    enum-known-way-2
-    take-notice-requires
     same_length
     returns
-    returns-2
-    returns-3)
+    returns-2)

@@ -1,18 +1,16 @@
 -- `take_udp` refuses where nobody is called, and else gives every panel that is called its turn.
 use mathlib.Core.Path.{◌≡◌, refl, sym, ap, ◌∙◌}
-use mathlib.Core.Bool.{Bool, true, false, cond}
+use mathlib.Core.Bool.{Bool, true, false}
 use mathlib.Core.List.{List, [], map}
 use Prim.Native.Nat.{ℕ}
 use lib.Dec.{eqb}
 use borrow.Author.Tests.{not-true, not-false, ne_eqb}
 use native.Mathlib.Omega.{arith}
 use borrow.Author.Rules.{rules}
-use Rattle.laws.specs.Runs.{first_each, first_some}
-use Rattle.panels.specs.Valid.{valid}
+use Rattle.panels.specs.declared.Panel.{Panel}
 use Rattle.panels.specs.declared.DisplayBox.{DisplayBox}
 use Rattle.terms.specs.Answers.{partNumber, number_of}
 use Rattle.terms.specs.declared.Answer.{Answer}
-use Rattle.terms.specs.declared.Answer.TheVariants.{Done, LineFull}
 use Rattle.terms.proofs.Answers.{part-late}
 use Rattle.steps.specs.Messages.{udp, names}
 use Rattle.steps.specs.Addressing.{any_called}
@@ -20,12 +18,9 @@ use Rattle.steps.specs.Step.{with_panels, to_nobody, nothing, step}
 use Rattle.steps.proofs.Door.{nobody_shut}
 use Rattle.sdcp_asks.proofs.Refusals.{cast_undone}
 use Rattle.ways_in.specs.Promise.{Steps}
-use Rattle.sdcp_asks.specs.Asks.{cast_of}
-use Rattle.sdcp_asks.specs.declared.Heard.TheVariants.{Understood}
-use Rattle.vmc_asks.specs.declared.Order.{Order}
-use Rattle.ways_in.specs.Turns.{resting, heeded, heeds, cast_to}
+use Rattle.ways_in.specs.Turns.{resting}
 use Rattle.ways_in.specs.declared.Outcome.{Outcome}
-use Rattle.ways_in.proofs.Calls.{uncalled, idle, refusing, broken, strange, some_took, none_took}
+use Rattle.ways_in.proofs.Calls.{uncalled, idle, refusing, broken, strange, obeyed}
 use Rattle.ways_in.proofs.Doors.{valid_count, called_read, called_valid}
 use Rattle.ways_in.proofs.Stores.{steps, refuses}
 use Rattle.box_rules.specs.Pairs.{judged}
@@ -37,18 +32,6 @@ use Rattle.ways_in.proofs.take_udp.Tie as tie
 -- the box rests as it was, with an answer
 rests : (b : DisplayBox) (m : List ℕ) (a : Answer) (r : Outcome) → step b (udp m) ≡ record { box = b; answer = a; back = nothing } → r ≡ resting b a → Steps b (udp m) r []
 rests b m a r e f = steps b (udp m) r [] (record { box = b; answer = a; back = nothing }) e (ap (λ (x : Outcome). x.after) f) (ap (λ (x : Outcome). x.answer) f) (ap (λ (x : Outcome). x.len) f) (ap (λ (x : Outcome). x.done) f) refl
-
--- an order that was understood: some panel took it, or none
-casts : (b : DisplayBox) (m : List ℕ) (o : Order) (r : Outcome) → valid b ≡ true → any_called m (names b) ≡ true → cast_of m ≡ Understood o → r ≡ cast_to b m o → Steps b (udp m) r []
-casts b m o r v n e f = go (first_some (heeds m o) b.count b.panels) refl
-  where
-    go : (t : Bool) → first_some (heeds m o) b.count b.panels ≡ t → Steps b (udp m) r []
-    go true t =
-        let g = f ∙ ap (λ (x : Bool). cond x (record { after = with_panels b (first_each (heeded m o) b.count b.panels); answer = Done; len = 0; done = true }) (resting b LineFull)) t in
-        steps b (udp m) r [] _ (some_took b m o v n e t) (ap (λ (x : Outcome). x.after) g) (ap (λ (x : Outcome). x.answer) g) (ap (λ (x : Outcome). x.len) g) (ap (λ (x : Outcome). x.done) g) refl
-    go false t =
-        rests b m LineFull r (none_took b m o v n e t)
-        (f ∙ ap (λ (x : Bool). cond x (record { after = with_panels b (first_each (heeded m o) b.count b.panels); answer = Done; len = 0; done = true }) (resting b LineFull)) t)
 
 -- somebody is called, read off the IDs
 some : (b : DisplayBox) (m : List ℕ) (j : Judged) (y : Bool) → j ≡ judged b → y ≡ any_called m (map id_name j.ids) → y ≡ true → any_called m (names b) ≡ true
@@ -110,7 +93,7 @@ obey-all-requires c κs =
     let a = c.before.before.before.before.before.before.before.before.before.before.args in
     let j = c.before.before.before.before.before.before.before.before.judge in
     let q = c.before.before.before.before.before.before.any-called in
-    (valid_count a.b (called_valid a.b a.m.now (some a.b a.m.now j.result q.result j.ensures q.ensures (not-false q.result c.before.before.before.before.before.if1.false))), refl)
+    valid_count a.b (called_valid a.b a.m.now (some a.b a.m.now j.result q.result j.ensures q.ensures (not-false q.result c.before.before.before.before.before.if1.false)))
 
 returns-2 : tie.Need-returns-2
 returns-2 c =
@@ -142,8 +125,7 @@ returns-5 c =
     let j = c.before.before.before.before.before.before.before.before.before.judge in
     let q = c.before.before.before.before.before.before.before.any-called in
     let n = some a.b a.m.now j.result q.result j.ensures q.ensures (not-false q.result c.before.before.before.before.before.before.if1.false) in
-    let o = c.before.before.before.o.given in
-    casts a.b a.m.now o.0.0 c.obey-all.result (called_valid a.b a.m.now n) n (sym c.before.before.before.before.before.hear-cast.ensures ∙ o.1) c.obey-all.ensures
+    steps a.b (udp a.m.now) _ [] _ (obeyed a.b a.m.now c.before.before.before.o.given.0.0 (called_valid a.b a.m.now n) n (sym c.before.before.before.before.before.hear-cast.ensures ∙ c.before.before.before.o.given.1)) (ap (λ (ps : List Panel). with_panels a.b ps) c.obey-all.ensures) refl refl refl refl
 
 pub take-udp-spec : {M : Type 1} → statement M
 take-udp-spec =

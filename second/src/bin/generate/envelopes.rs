@@ -6,11 +6,11 @@ use crate::sweep::{HOUSE, K, PANELS, W};
 use crate::wire::{flush, header};
 
 /// Makes one thing wrong.
-pub type Fault = fn(&mut Vec<u8>);
+type Fault = fn(&mut Vec<u8>);
 
 /// Every part of a packet wrong in some way, and what is judged before the envelope and behind it.
 /// The last one leaves too few bytes for the others.
-pub const PACKET_FAULTS: [Fault; 18] = [
+const PACKET_FAULTS: [Fault; 18] = [
     |message| message[0] = 0x04,
     |message| message[1] = 0x0C,
     |message| message[5] = b'y',
@@ -32,7 +32,7 @@ pub const PACKET_FAULTS: [Fault; 18] = [
 ];
 
 /// Every part of an RS-232C message wrong in some way but the checksum.
-pub const SERIAL_FAULTS: [Fault; 12] = [
+const SERIAL_FAULTS: [Fault; 12] = [
     |message| message[0] = 0x03,
     |message| message[2] = 0x02,
     |message| message[3] = 0x40,
@@ -53,7 +53,7 @@ fn say(message: &mut [u8], length: u16) {
 }
 
 /// No fault, each alone, and every two, the later one made behind the earlier.
-pub fn alone_and_in_pairs(faults: &[Fault]) -> Vec<Vec<Fault>> {
+fn alone_and_in_pairs(faults: &[Fault]) -> Vec<Vec<Fault>> {
     let mut choices = vec![Vec::new()];
     for (place, first) in faults.iter().enumerate() {
         choices.push(vec![*first]);
@@ -68,7 +68,7 @@ pub fn alone_and_in_pairs(faults: &[Fault]) -> Vec<Vec<Fault>> {
 
 /// A packet that is made for these IDs: by TCP to the link's own panel and to a pair, by UDP to a
 /// group, to all and to a pair, and off the wire.
-pub fn every_way(script: &mut Script, made: impl Fn(u8, u8) -> Vec<u8>) {
+fn every_way(script: &mut Script, made: impl Fn(u8, u8) -> Vec<u8>) {
     script.tcp(W, 512, &made(0, 0));
     script.tcp(W, 512, &made(1, 3));
     script.udp(&made(1, 255));

@@ -5,14 +5,13 @@
 //! - `generate sweep` writes the fixed script that walks every small range of document 01, streams
 //!   in pieces (document 02, §1), every ending behind every kind of words (§2), every flip word
 //!   from every flip (§4), status asked by broadcast in every form (§5), the codes of the remote
-//!   control (§6), buffers for the plain reader (§7), envelopes with each part wrong, and with every
-//!   two (§8), and busy panels with lines of every length (§9).
+//!   control (§6), buffers for the plain reader (§7), and envelopes with each part wrong, and with
+//!   every two (§8).
 //!
 //! The generator knows what the documents accept, so that most of its messages get past the first
 //! checks; it does not know, and does not use, what the answers are.
 
 mod buffers;
-mod busy;
 mod envelopes;
 mod make;
 mod random;
@@ -51,7 +50,6 @@ fn script_for(arguments: &[String]) -> Option<Vec<u8>> {
 mod tests {
     use super::*;
     use std::collections::BTreeSet;
-    use std::sync::OnceLock;
 
     /// The answered lines of a script, each with its answer.
     fn answered(script: &[u8]) -> Vec<(String, String)> {
@@ -68,12 +66,6 @@ mod tests {
             .map(|order| String::from_utf8_lossy(order).into_owned())
             .zip(answers)
             .collect()
-    }
-
-    /// The sweep, answered once for all tests.
-    fn swept() -> &'static [(String, String)] {
-        static SWEPT: OnceLock<Vec<(String, String)>> = OnceLock::new();
-        SWEPT.get_or_init(|| answered(&sweep::script()))
     }
 
     /// The answers in an output, a line each but for `piece`: its first line is a `packet` or
@@ -163,15 +155,13 @@ mod tests {
     fn every_answer() -> BTreeSet<(&'static str, &'static str)> {
         let numbers = [
             ("box", "0 7"),
-            ("rs232", "0 1 2 3 4 6 13 14 16"),
-            ("tcp", "0 1 2 3 4 6 9 10 11 12 15"),
+            ("rs232", "0 1 2 3 4 6 13 14"),
+            ("tcp", "0 1 2 3 4 6 9 10 11 12"),
             // What a receiver hands out has 13 bytes at least, and as many as it says, or says over
             // 499.
-            ("piece", "0 1 2 4 6 9 10 11 15"),
-            ("udp", "0 3 4 6 8 9 10 11 12 15"),
+            ("piece", "0 1 2 4 6 9 10 11"),
+            ("udp", "0 3 4 6 8 9 10 11 12"),
             ("kjw", "0 1 2 3 4 6"),
-            ("busy", "0 17"),
-            ("free", "0 17"),
             ("advert", "0 3 4 5"),
             ("write", "0 1 3 4 5"),
         ];
@@ -346,14 +336,14 @@ mod tests {
 
     #[test]
     fn the_sweep_asks_for_status_by_broadcast() {
-        let answered = swept();
+        let answered = answered(&sweep::script());
         for name in words::names() {
             let asked = format!("STATget {name}");
-            assert!(broadcasts(answered, &asked, "8") >= 20, "{asked}");
+            assert!(broadcasts(&answered, &asked, "8") >= 20, "{asked}");
         }
         for (texts, number) in [(words::QUESTIONS, "8"), (words::NO_QUESTIONS, "6")] {
             for text in texts {
-                assert!(broadcasts(answered, text, number) >= 10, "{text:?}");
+                assert!(broadcasts(&answered, text, number) >= 10, "{text:?}");
             }
         }
     }
@@ -397,13 +387,13 @@ mod tests {
 
     #[test]
     fn the_sweep_has_the_remote_control() {
-        let answered = swept();
+        let answered = answered(&sweep::script());
         for code in 0..=140 {
-            let listed = presses(answered, code, ACCEPTED);
-            let refused = presses(answered, code, REFUSED);
+            let listed = presses(&answered, code, ACCEPTED);
+            let refused = presses(&answered, code, REFUSED);
             assert!(listed.max(refused) >= 10, "{code}");
             assert_eq!(listed.min(refused), 0, "{code}");
-            let told = presses(answered, code, WITH_NOTICE) > 0;
+            let told = presses(&answered, code, WITH_NOTICE) > 0;
             assert_eq!(told, words::STATE_CODES.contains(&code), "{code}");
         }
     }
@@ -477,9 +467,9 @@ mod tests {
 
     #[test]
     fn the_sweep_has_every_count_of_packets() {
-        let answered = swept();
-        every_kind_of_list_is_there(answered);
-        let lists: BTreeSet<Said> = lists(answered).into_iter().collect();
+        let answered = answered(&sweep::script());
+        every_kind_of_list_is_there(&answered);
+        let lists: BTreeSet<Said> = lists(&answered).into_iter().collect();
         for entries in 0..=64 {
             let tails: BTreeSet<usize> = lists
                 .iter()
@@ -492,8 +482,8 @@ mod tests {
 
     #[test]
     fn the_sweep_has_every_ending_behind_every_kind_of_words() {
-        let answered = swept();
-        every_ending_is_there(answered);
+        let answered = answered(&sweep::script());
+        every_ending_is_there(&answered);
         let told: BTreeSet<Vec<u8>> = answered
             .iter()
             .filter_map(data_and_number)
@@ -521,11 +511,11 @@ mod tests {
 
     #[test]
     fn the_sweep_has_every_part_of_the_envelope() {
-        let answered = swept();
+        let answered = answered(&sweep::script());
         // A checksum stands at the end of 6 to 258 bytes.
         let checksums = (5..=257).map(|place| ("rs232", 14, place));
         let expected: BTreeSet<_> = every_place().into_iter().chain(checksums).collect();
-        assert_eq!(places(answered), expected);
+        assert_eq!(places(&answered), expected);
     }
 
     // Request, item, length over 499, length not matching: every choice of them, each way in.
@@ -563,191 +553,12 @@ mod tests {
         }
     }
 
-    /// An order to a panel that is busy (§9), with its answer and the words of its data, if it has
-    /// any.
-    struct Meanwhile {
-        way: String,
-        number: String,
-        words: String,
-    }
-
-    /// The words of a packet's data as they are read, and none where it has none.
-    fn words_of(order: &str) -> String {
-        let data = packet_of(order).map(|bytes| bytes[13..].to_vec());
-        let text = String::from_utf8(data.unwrap_or_default()).unwrap_or_default();
-        text.trim_end_matches('\0').trim_end().to_string()
-    }
-
-    /// The orders to the link's own panel that came while that was busy.
-    fn meanwhile(answered: &[(String, String)]) -> Vec<Meanwhile> {
-        let mut busy: BTreeSet<String> = BTreeSet::new();
-        let mut orders = Vec::new();
-        for (order, answer) in answered {
-            let words: Vec<&str> = order.split(' ').collect();
-            match (words.as_slice(), answer.as_str()) {
-                (["busy", link], "answer 0") => {
-                    busy.insert(link.to_string());
-                }
-                (["free", link], "answer 0") => {
-                    busy.remove(*link);
-                }
-                (["box", ..], "box 0" | "box 7") => busy.clear(),
-                ([way @ ("tcp" | "rs232"), link, _, bytes], _) if busy.contains(*link) => {
-                    let own = *way == "rs232" || bytes.starts_with("030B534F4E590000");
-                    let number = word_behind("answer ", answer);
-                    if let (true, Some(number)) = (own, number) {
-                        orders.push(Meanwhile {
-                            way: way.to_string(),
-                            number: number.to_string(),
-                            words: words_of(order),
-                        });
-                    }
-                }
-                _ => {}
-            }
-        }
-        orders
-    }
-
-    /// How many orders of this word have this number.
-    fn told(answered: &[(String, String)], word: &str, number: &str) -> usize {
-        let told = lines(answered).filter(|(order, line)| {
-            *order == word && word_behind("answer ", line).is_some_and(|told| told == number)
-        });
-        told.count()
-    }
-
-    // Every seed that `tests/compare` walks has busy panels, lines empty and begun, and full ones
-    // that drop sets by every way; and RS-232C finds a free panel far more often than a busy one.
-    #[test]
-    fn every_seed_has_busy_panels_and_full_lines() {
-        for seed in 1..=12 {
-            let answered = answered(&random::script(seed, 5000));
-            let told = |word: &str, number: &str| told(&answered, word, number);
-            for (word, number, least) in [
-                ("busy", "0", 40),
-                ("free", "0", 35),
-                ("busy", "17", 2),
-                ("free", "17", 2),
-                ("tcp", "15", 10),
-                ("piece", "15", 3),
-                ("udp", "15", 3),
-                ("rs232", "16", 15),
-            ] {
-                let count = told(word, number);
-                assert!(count >= least, "seed {seed}: {count} {word} {number}");
-            }
-            let free = told("rs232", "0") + told("rs232", "6");
-            assert!(4 * told("rs232", "16") < free, "seed {seed}");
-            let shown: Vec<&str> = lines(&answered)
-                .filter(|(order, line)| *order == "show" && line.starts_with("W "))
-                .map(|(_, line)| line)
-                .collect();
-            let busy: Vec<&str> = shown
-                .iter()
-                .filter_map(|line| line.split_once(" BUSY "))
-                .map(|(_, waiting)| waiting)
-                .collect();
-            assert!(3 * busy.len() < shown.len(), "seed {seed}");
-            for waiting in ["0", "1", "8"] {
-                assert!(busy.contains(&waiting), "seed {seed}: {waiting} waiting");
-            }
-        }
-    }
-
-    // And in every seed a busy panel is told sets whose order counts, is asked, and is told what it
-    // does not understand; of what it drops all are sets.
-    #[test]
-    fn every_seed_has_packets_to_busy_panels() {
-        for seed in 1..=12 {
-            let meanwhile = meanwhile(&answered(&random::script(seed, 5000)));
-            let count = |number: &str, front: &str| {
-                meanwhile
-                    .iter()
-                    .filter(|order| order.way == "tcp" && order.number == number)
-                    .filter(|order| order.words.starts_with(front))
-                    .count()
-            };
-            for (number, front, least) in [
-                ("0", "STATset ", 40),
-                ("0", "STATset FLIP", 4),
-                ("0", "STATset SHIFT", 4),
-                ("0", "STATset RESET", 3),
-                ("0", "STATget ", 12),
-                ("6", "", 3),
-                ("15", "STATset ", 5),
-            ] {
-                let count = count(number, front);
-                assert!(count >= least, "seed {seed}: {count} {number} {front}");
-            }
-            assert_eq!(count("15", ""), count("15", "STATset "));
-        }
-    }
-
-    // Every set waits somewhere in the sweep, is dropped somewhere, and every name is asked
-    // meanwhile; lines of every length are shown.
-    #[test]
-    fn the_sweep_has_every_set_waiting() {
-        let answered = swept();
-        let meanwhile: BTreeSet<(String, String)> = meanwhile(answered)
-            .into_iter()
-            .filter(|order| order.way == "tcp")
-            .map(|order| (order.number, order.words))
-            .collect();
-        let has = |number: &str, words: &str| {
-            meanwhile.contains(&(number.to_string(), words.to_string()))
-        };
-        for text in words::good_texts() {
-            assert!(has("0", &text), "{text}");
-            assert!(has("15", &text) == text.starts_with("STATset"), "{text}");
-        }
-        for name in words::LEVELS {
-            assert!((0..=100).all(|level| has("0", &format!("STATset {name} {level}"))));
-        }
-        for name in words::SHIFTS {
-            assert!((-30..=30).all(|shift| has("0", &format!("STATset {name} {shift}"))));
-        }
-        for name in words::SWITCHES.into_iter().chain(words::FLIPS) {
-            assert!(["ON", "OFF"]
-                .iter()
-                .all(|state| has("0", &format!("STATset {name} {state}"))));
-        }
-        for text in words::STRANGERS {
-            assert!(has("6", text), "{text}");
-        }
-        for waiting in 0..=8 {
-            let end = format!(" BUSY {waiting}");
-            let shown = lines(answered).filter(|(_, line)| line.ends_with(&end));
-            assert!(shown.count() >= 30, "{waiting}");
-        }
-        assert!(!lines(answered).any(|(_, line)| line.ends_with(" BUSY 9")));
-    }
-
-    // RS-232C to a busy panel: every code, and every number before 16.
-    #[test]
-    fn the_sweep_has_rs232c_to_a_busy_panel() {
-        let answered = swept();
-        let numbers: BTreeSet<String> = meanwhile(answered)
-            .into_iter()
-            .filter(|order| order.way == "rs232")
-            .map(|order| order.number)
-            .collect();
-        let expected = ["1", "13", "14", "16", "3", "4"].map(String::from);
-        assert_eq!(numbers, BTreeSet::from(expected));
-        let codes: BTreeSet<&str> = answered
-            .iter()
-            .filter(|(_, answer)| answer.starts_with("answer 16 "))
-            .filter_map(|(order, _)| order.rsplit_once(' ')?.1.get(8..10))
-            .collect();
-        assert_eq!(codes.len(), 256);
-    }
-
     #[test]
     fn the_sweep_reaches_every_answer() {
-        let answered = swept();
+        let answered = answered(&sweep::script());
         assert!(answered.len() < sweep::MOST_ORDERS);
-        assert_eq!(reached(answered), every_answer());
-        every_kind_of_piece_is_there(answered);
+        assert_eq!(reached(&answered), every_answer());
+        every_kind_of_piece_is_there(&answered);
         assert!(answered
             .iter()
             .all(|(_, answer)| !answer.contains("spoiled")));

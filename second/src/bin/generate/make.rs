@@ -59,14 +59,6 @@ impl Script {
         self.line(format!("plain {}", hex(buffer)));
     }
 
-    pub fn busy(&mut self, link: u64) {
-        self.line(format!("busy {link}"));
-    }
-
-    pub fn free(&mut self, link: u64) {
-        self.line(format!("free {link}"));
-    }
-
     pub fn show(&mut self, link: u64) {
         self.line(format!("show {link}"));
     }

@@ -18,19 +18,16 @@ struct Panel {
     unit: u8,
 }
 
-/// The light model: what panels the box has, if it took the last `box`, which of them are busy, and
-/// what waits on the wires of links 1 to 8.
+/// The light model: what panels the box has, if it took the last `box`, and what waits on the wires
+/// of links 1 to 8.
 struct Console {
     rng: Rng,
     panels: Vec<Panel>,
     wires: [Vec<u8>; 8],
-    /// The links of the panels that were told to be busy, and are not free yet (§9).
-    busy: Vec<u64>,
-    /// Chance for the pieces alone, for `plain` alone, and for busy panels alone: so a seed gives all
-    /// other orders as it would without them.
+    /// Chance for the pieces alone, and for `plain` alone: so a seed gives all other orders as it
+    /// would without them.
     rng_of_wires: Rng,
     rng_of_buffers: Rng,
-    rng_of_notices: Rng,
     script: Script,
     no_orders: Vec<Vec<u8>>,
     bad_writes: Vec<String>,
@@ -42,10 +39,8 @@ pub fn script(seed: u64, orders: usize) -> Vec<u8> {
         rng: Rng::new(seed),
         panels: Vec::new(),
         wires: Default::default(),
-        busy: Vec::new(),
         rng_of_wires: Rng::new(!seed),
         rng_of_buffers: Rng::new(seed.rotate_left(32) ^ 7),
-        rng_of_notices: Rng::new(seed.rotate_left(16) ^ 9),
         script: Script::of_at_most(orders),
         no_orders: unread::lines(),
         bad_writes: unread::bad_write_lines(),
@@ -81,9 +76,6 @@ impl Console {
             let buffer = buffers::buffer(&mut self.rng_of_buffers);
             self.script.plain(&buffer);
         }
-        std::mem::swap(&mut self.rng, &mut self.rng_of_notices);
-        self.notices();
-        std::mem::swap(&mut self.rng, &mut self.rng_of_notices);
         if self.panels.is_empty() && !self.rng.once_in(5) || self.rng.once_in(50) {
             return self.new_box();
         }
@@ -145,7 +137,6 @@ impl Console {
         }
         self.script.line(line);
         self.panels = if good { panels } else { Vec::new() };
-        self.busy.clear();
         if self.rng.once_in(2) {
             self.show_all();
         }
@@ -477,7 +468,7 @@ impl Console {
         while self.wires[link - 1].is_empty() || self.rng.once_in(3) {
             let (group, unit) = self.pair_for_tcp();
             let mut message = packet(group, unit, &words::text(&mut self.rng));
-            if self.rng.once_in(8) {
+            if self.rng.once_in(12) {
                 self.spoil_packet(&mut message);
             }
             self.wires[link - 1].extend(wire::stretch(&mut self.rng, message));
@@ -505,187 +496,6 @@ impl Console {
         } else {
             1 + self.rng.below(8)
         }
-    }
-
-    /// Now and then a white balance run begins (§9), and a panel that is still busy becomes free.
-    fn notices(&mut self) {
-        if self.rng.once_in(30) {
-            self.white_balance();
-        }
-        if !self.busy.is_empty() && self.rng.once_in(20) {
-            let link = self.rng.pick(&self.busy);
-            self.tell_free(link);
-            self.script.show(link);
-        }
-    }
-
-    fn tell_busy(&mut self, link: u64) {
-        self.script.busy(link);
-        if self.is_w(link) && !self.busy.contains(&link) {
-            self.busy.push(link);
-        }
-    }
-
-    fn tell_free(&mut self, link: u64) {
-        self.script.free(link);
-        self.busy.retain(|busy| *busy != link);
-    }
-
-    fn is_w(&self, link: u64) -> bool {
-        self.w_links().contains(&link)
-    }
-
-    fn w_links(&self) -> Vec<u64> {
-        (1..=self.panels.len())
-            .filter(|link| self.panels[link - 1].family == 'W')
-            .map(|link| link as u64)
-            .collect()
-    }
-
-    /// A panel is busy, the consoles go on, some of them beyond the end of its line, and mostly it is
-    /// free in the end.
-    fn white_balance(&mut self) {
-        if self.rng.once_in(7) {
-            return self.white_balance_of_many();
-        }
-        let family = self.rng.pick(&['W', 'W', 'W', 'W', 'W', 'W', 'W', 'K']);
-        let link = self.link(family);
-        self.tell_busy(link);
-        if !self.is_w(link) {
-            self.tell_free(link);
-            return self.script.show(link);
-        }
-        for _ in 0..self.rng.pick(&[0, 1, 3, 8, 9, 10, 12, 13]) {
-            self.set_meanwhile(link);
-            if self.rng.once_in(4) {
-                self.meanwhile(link);
-            }
-        }
-        self.script.show(link);
-        if self.rng.once_in(2) {
-            self.question(link);
-        }
-        if self.rng.once_in(2) {
-            for _ in 0..self.rng.pick(&[1, 1, 1, 2]) {
-                self.tell_free(link);
-                self.script.show(link);
-            }
-        }
-    }
-
-    /// A set for the panel of this link, by every way.
-    fn set_meanwhile(&mut self, link: u64) {
-        let data = words::set(&mut self.rng);
-        let panel = self.panels[link as usize - 1];
-        match self.rng.below(12) {
-            0..=4 => {
-                let area = self.area();
-                let mut message = packet(0, 0, &data);
-                if self.rng.once_in(8) {
-                    self.spoil_packet(&mut message);
-                }
-                self.script.tcp(link, area, &message);
-            }
-            5..=6 => {
-                let other = self.link('W');
-                let message = packet(panel.group, panel.unit, &data);
-                self.script.tcp(other, 512, &message);
-            }
-            7 => self.script.udp(&packet(panel.group, 255, &data)),
-            8 => self.script.udp(&packet(255, 255, &data)),
-            _ => self.set_off_the_wire(link as usize, &data),
-        }
-    }
-
-    /// What waits on the wire and this set behind it, in some pieces.
-    fn set_off_the_wire(&mut self, link: usize, data: &[u8]) {
-        let mut message = packet(0, 0, data);
-        if self.rng.once_in(8) {
-            self.spoil_packet(&mut message);
-        }
-        self.wires[link - 1].extend(message);
-        while !self.wires[link - 1].is_empty() {
-            let length = wire::cut(&mut self.rng, self.wires[link - 1].len());
-            let piece: Vec<u8> = self.wires[link - 1].drain(..length).collect();
-            self.script.piece(link as u64, 512, &piece);
-        }
-    }
-
-    /// A question for the panel of this link, often about what sets change in turn.
-    fn question(&mut self, link: u64) {
-        let names = [&words::names()[..], &words::FLIPS, &words::SHIFTS].concat();
-        let get = format!("STATget {}", self.rng.pick(&names));
-        self.script.tcp(link, 512, &packet(0, 0, get.as_bytes()));
-    }
-
-    /// What else reaches a panel that is busy.
-    fn meanwhile(&mut self, link: u64) {
-        match self.rng.below(12) {
-            0..=3 => self.question(link),
-            4..=6 => {
-                let area = self.area();
-                let mut message = self.serial_message();
-                if self.rng.once_in(5) {
-                    self.spoil_serial(&mut message);
-                }
-                self.script.rs232(link, area, &message);
-            }
-            7..=8 => {
-                let data = words::text(&mut self.rng);
-                self.script.tcp(link, 512, &packet(0, 0, &data));
-            }
-            9 => self.tell_busy(link),
-            10 => {
-                self.tell_free(link);
-                self.tell_busy(link);
-            }
-            _ => self.show_all(),
-        }
-    }
-
-    /// Several panels at once, and broadcasts: each panel decides for itself, by its own line.
-    fn white_balance_of_many(&mut self) {
-        let links = self.w_links();
-        let everybody = !self.rng.once_in(3);
-        for link in &links {
-            if everybody || self.rng.once_in(2) {
-                self.tell_busy(*link);
-            }
-        }
-        if self.rng.once_in(2) {
-            for _ in 0..8 {
-                let data = words::set(&mut self.rng);
-                self.script.udp(&packet(255, 255, &data));
-            }
-        } else {
-            for link in &links {
-                for _ in 0..self.rng.pick(&[0, 1, 7, 8]) {
-                    let data = words::set(&mut self.rng);
-                    self.script.tcp(*link, 512, &packet(0, 0, &data));
-                }
-            }
-        }
-        self.show_all();
-        for _ in 0..1 + self.rng.below(6) {
-            self.cast();
-        }
-        self.show_all();
-        for link in links {
-            if !self.rng.once_in(4) {
-                self.tell_free(link);
-            }
-        }
-    }
-
-    /// A broadcast to panels some of which are busy: mostly a set, or something nearly.
-    fn cast(&mut self) {
-        let (group, unit) = self.pair_for_udp();
-        let data = match self.rng.below(8) {
-            0 => words::text(&mut self.rng),
-            1 => words::question(&mut self.rng),
-            _ => words::set(&mut self.rng),
-        };
-        self.script.udp(&packet(group, unit, &data));
     }
 
     fn udp(&mut self) {

@@ -2,7 +2,6 @@
 //! what document 02 asks for besides.
 
 use crate::buffers;
-use crate::busy;
 use crate::envelopes;
 use crate::make::{
     advert_of_000, close, frame, full_advert, hashes_behind, hex, packet, serial, zeros_before,
@@ -24,14 +23,14 @@ pub const PANELS: usize = 5;
 pub const HOUSE: &str = "box W 1 2 W 1 3 W 2 1 K 0 0 K 0 0";
 
 /// More than the sweep has.
-pub const MOST_ORDERS: usize = 130_000;
+pub const MOST_ORDERS: usize = 100_000;
 
 /// A part of the sweep: its title, and what writes it.
 type Part = (&'static str, fn(&mut Script));
 
 pub fn script() -> Vec<u8> {
     let mut script = Script::of_at_most(MOST_ORDERS);
-    let parts: [Part; 49] = [
+    let parts: [Part; 41] = [
         ("before any box", before_any_box),
         ("boxes, good and bad", boxes),
         ("links and areas", links_and_areas),
@@ -72,14 +71,6 @@ pub fn script() -> Vec<u8> {
             "the plain reader: beside receivers",
             buffers::beside_receivers,
         ),
-        ("busy panels: notices", busy::notices),
-        ("busy panels: every set waiting", busy::waiting),
-        ("busy panels: full lines", busy::full_lines),
-        ("busy panels: orders in a line", busy::orders_in_a_line),
-        ("busy panels: RS-232C", busy::serials),
-        ("busy panels: packets", busy::packets),
-        ("busy panels: broadcasts", busy::broadcasts),
-        ("busy panels: off the wire", busy::pieces),
         ("KJW: every place of the frame", frame_places),
         ("KJW: every setting with every value", frame_values),
         ("KJW: the remote control", remote_codes),

@@ -247,29 +247,6 @@ pub fn text(rng: &mut Rng) -> Vec<u8> {
     text
 }
 
-/// A set that is understood, for a panel that may be busy (§9): often of what the sets before it
-/// can have changed, so that their order counts; one in four has an ending behind it.
-pub fn set(rng: &mut Rng) -> Vec<u8> {
-    let words = match rng.below(12) {
-        0..=1 => format!("{} {}", rng.pick(&LEVELS), rng.below(101)),
-        2..=3 => format!(
-            "{} {}{}",
-            rng.pick(&SHIFTS),
-            rng.pick(&["", "+", "-"]),
-            1 + rng.below(30)
-        ),
-        4..=5 => "RESET".to_string(),
-        6..=7 => format!("{} {}", rng.pick(&FLIPS), rng.pick(&["ON", "OFF"])),
-        8 => rng.pick(&CHOICES).to_string(),
-        _ => format!("{} {}", rng.pick(&SWITCHES), rng.pick(&["ON", "OFF"])),
-    };
-    let mut text = format!("STATset {words}").into_bytes();
-    if rng.once_in(4) {
-        text.extend(rng.pick(&GOOD_ENDINGS));
-    }
-    text
-}
-
 /// A question by broadcast, or nearly, with every kind of tail; some have an ending behind it.
 pub fn question(rng: &mut Rng) -> Vec<u8> {
     let mut text = match rng.below(10) {

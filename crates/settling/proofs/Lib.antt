@@ -1,4 +1,0 @@
-pub mod Determined
-pub mod Stored
-pub mod Lines
-pub mod Turns
