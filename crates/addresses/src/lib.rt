@@ -1,5 +1,7 @@
 // Whom a message comes to: what the panels of a box are called by, the way in and the first eight bytes decide it (document 01,
 // "Addressing"), behind the first two checks.
+#![tactic(auto)]
+
 ghost use Rattle.std.specs.Prelude.{◌≡◌, ◌&&◌, map, eqb, length};
 ghost use Rattle.steps.specs.Addressing.{has_ids, is_id, is_pair, pair_number, by_tcp, is_called, any_called};
 ghost use Rattle.steps.specs.Step.{to_nobody};
@@ -12,7 +14,7 @@ use sdcp_asks::is_ours;
 use terms::{Answer, GroupId, UnitId, same_group, same_unit};
 
 // The ways in that have a link and a reply area.
-#[derive(Drop)]
+#[derive(Clone, Copy)]
 pub enum Line {
     Rs232c,
     Kjw,
@@ -20,7 +22,7 @@ pub enum Line {
 }
 
 // The door of the box: shut with an answer, or open to the panel at a place.
-#[derive(Drop)]
+#[derive(Clone, Copy)]
 pub enum Door {
     Shut(Answer),
     At(usize),

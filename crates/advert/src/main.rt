@@ -1,4 +1,6 @@
 // Reads all of standard input and prints the advert's product, serial, group and unit, or the one line `refused N`.
+#![tactic(auto)]
+
 use libc::{STDIN_FILENO, STDOUT_FILENO};
 use sdap::{Advert, text_length};
 use sdap_read::read_advert;

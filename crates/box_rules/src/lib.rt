@@ -1,4 +1,6 @@
 // A box judged by the rules: how many panels, each by itself, and no two W panels that share both IDs (document 01, "The box and its messages").
+#![tactic(auto)]
+
 ghost use Rattle.std.specs.Prelude.{◌≡◌, ◌<◌, ◌≤◌, false, replicate};
 ghost use Rattle.panels.specs.Valid.{valid};
 ghost use Rattle.box_rules.specs.Pairs.{ids_of, no_ids, judged};
@@ -10,7 +12,7 @@ use panels::{DisplayBox, FAMILY_W, Panel};
 use terms::{GroupId, UnitId};
 
 // What a panel is called by: three bytes, where a whole panel is 58. Family 0 is no panel.
-#[derive(Drop)]
+#[derive(Clone, Copy)]
 pub struct Ids {
     pub family: u8,
     pub group: GroupId,
@@ -18,7 +20,7 @@ pub struct Ids {
 }
 
 // Whether a box keeps the rules, and what its panels are called by, each at its place; none of a box that breaks them.
-#[derive(Drop)]
+#[derive(Clone, Copy)]
 pub struct Judged {
     pub good: bool,
     pub ids: [Ids; 8],
@@ -26,7 +28,7 @@ pub struct Judged {
 
 // What was seen of the panels: whether each is good by itself, what they are called by, and their pairs as numbers, eight places and
 // the same eight again.
-#[derive(Drop)]
+#[derive(Clone, Copy)]
 struct Seen {
     good: bool,
     ids: [Ids; 8],

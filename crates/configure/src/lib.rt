@@ -1,4 +1,6 @@
 // A configuration: three bytes a panel in, a box at its start values out (document 01, "The box and its messages" and "Start values").
+#![tactic(auto)]
+
 ghost use Rattle.std.specs.Prelude.{◌≡◌, ◌≤◌, length};
 ghost use Rattle.panels.specs.Records.{start_w, start_k};
 ghost use Rattle.configure.specs.Configure.{asked, fresh_panel, refusal, configured};
@@ -9,7 +11,7 @@ use settings::start_values;
 use terms::{Answer, GroupId, UnitId};
 
 // What a configuration gives: its answer, and the box.
-#[derive(Drop)]
+#[derive(Clone, Copy)]
 pub struct Configured {
     pub answer: Answer,
     pub made: DisplayBox,

@@ -1,18 +1,20 @@
 // Decimals in and out: what digits write, and the digits that write a number.
+#![tactic(auto)]
+
 ghost use Rattle.std.specs.Prelude.{◌≡◌, true, cond, ◌+◌, ◌-◌, ◌/◌, ◌%◌, ◌^◌, ◌<◌, ◌≤◌, ltb, length};
 ghost use Rattle.laws.specs.Lists.{every};
 ghost use Rattle.decimals.specs.Decimals.{is_digit, decimal, in_digits, read_digits, leads_zero, up_to, spelled};
 ghost use Rattle.decimals.specs.Plain.{width};
 
 // The number that a text writes, if it writes one.
-#[derive(Drop)]
+#[derive(Clone, Copy)]
 pub enum Number {
     Is(u64),
     Not,
 }
 
 // A number without leading zeros: so many bytes, then zeros.
-#[derive(Drop)]
+#[derive(Clone, Copy)]
 pub struct Numeral {
     pub bytes: [u8; 3],
     pub len: usize,

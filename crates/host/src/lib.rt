@@ -1,4 +1,6 @@
 // The calls for the C host: numbers and byte areas in, numbers out. include/display_box.h declares them.
+#![tactic(auto)]
+
 ghost use Rattle.std.specs.Prelude.{◌≡◌};
 ghost use Rattle.terms.specs.Answers.{number_of};
 ghost use Rattle.terms.specs.declared.Answer.TheVariants.{Done};
@@ -21,7 +23,7 @@ use terms::{GroupId, UnitId, answer_number};
 
 // What the host is told of a message: the answer's number and its place in the message, and the reply's length.
 #[repr(C)]
-#[derive(Drop)]
+#[derive(Clone, Copy)]
 pub struct Outcome {
     pub answer: u8,
     pub place: u16,
@@ -74,7 +76,7 @@ pub extern "C" fn box_panel_at(b: &DisplayBox, link: usize, panel: &mut Panel)
 
 // What the host is told of a piece: how many of its bytes were taken, and the length of what is handed out, 0 for nothing.
 #[repr(C)]
-#[derive(Drop)]
+#[derive(Clone, Copy)]
 pub struct Handed {
     pub taken: usize,
     pub len: usize,

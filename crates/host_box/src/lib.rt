@@ -1,4 +1,6 @@
 // The box as a C host calls it, by value: a configuration, a message by the number of its way in, and the panel behind a link.
+#![tactic(auto)]
+
 ghost use Rattle.std.specs.Prelude.{◌≡◌, eqb};
 ghost use Rattle.terms.specs.Answers.{number_of, answerPlace};
 ghost use Rattle.configure.specs.Configure.{configured};
@@ -12,7 +14,7 @@ use terms::{Answer, answer_number, answer_place};
 use ways_in::{Way, take};
 
 // What a message did: the box after it, the answer's number and its place in the message, the reply's length, and whether the number is 0.
-#[derive(Drop)]
+#[derive(Clone, Copy)]
 pub struct Outcome {
     pub after: DisplayBox,
     pub answer: u8,
@@ -22,21 +24,21 @@ pub struct Outcome {
 }
 
 // What a configuration gave: the box, and the answer's number.
-#[derive(Drop)]
+#[derive(Clone, Copy)]
 pub struct Made {
     pub made: DisplayBox,
     pub answer: u8,
 }
 
 // Where the number of a way leads.
-#[derive(Drop)]
+#[derive(Clone, Copy)]
 pub enum Entry {
     Through(Way),
     Nowhere,
 }
 
 // An answer's number, and its place in the message.
-#[derive(Drop)]
+#[derive(Clone, Copy)]
 struct AnswerNumbers {
     number: u8,
     place: u16,

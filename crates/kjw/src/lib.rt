@@ -1,4 +1,6 @@
 // KJW: what a K panel does with a frame (document 01, "KJW (003)", and document 02, §6).
+#![tactic(auto)]
+
 ghost use Rattle.std.specs.Prelude.{◌≡◌};
 ghost use Rattle.turns.specs.Turns.{Takes};
 ghost use Rattle.kjw.specs.Orders.{turned_over, louder, softer, carried};
@@ -13,7 +15,7 @@ use panels::{KRecord, MOST_VOLUME};
 use terms::Answer;
 
 // What a panel does with what it heard.
-#[derive(Drop)]
+#[derive(Clone, Copy)]
 pub struct Decided {
     pub k: KRecord,
     pub answer: Answer,
@@ -21,7 +23,7 @@ pub struct Decided {
 }
 
 // What the door gives back: the panel afterwards, the answer, and the reply's length.
-#[derive(Drop)]
+#[derive(Clone, Copy)]
 pub struct Outcome {
     pub after: KRecord,
     pub answer: Answer,

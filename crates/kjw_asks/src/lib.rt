@@ -1,4 +1,6 @@
 // KJW: what a frame asks, whatever the panel (document 01, "KJW (003)").
+#![tactic(auto)]
+
 ghost use Rattle.std.specs.Prelude.{◌≡◌, length};
 ghost use Rattle.kjw_asks.specs.Frames.{letters_of};
 ghost use Rattle.kjw_asks.specs.Asks.{state_named, toggle_of, code_or_toggle, control_of, enquiry_of, is_ours, heard_of};
@@ -9,7 +11,7 @@ use octets::{byte_at, is_listed, same_bytes};
 use terms::Answer;
 
 // The state that four letters name, if they name one.
-#[derive(Drop)]
+#[derive(Clone, Copy)]
 pub enum Named {
     Is(State),
     Nothing,

@@ -1,4 +1,6 @@
 // KJW: what a control with the letters IRCC orders (document 02, §6).
+#![tactic(auto)]
+
 ghost use Rattle.std.specs.Prelude.{◌≡◌};
 ghost use Rattle.kjw_codes.specs.Presses.{pressed, code_order};
 

@@ -1,4 +1,6 @@
 // KJW: the states, their letters, and what a control with these orders (document 01, "KJW (003)").
+#![tactic(auto)]
+
 ghost use Rattle.std.specs.Prelude.{◌≡◌, ◌≤◌, length};
 ghost use Rattle.kjw_sets.specs.Sets.{chosen, choice_order, volume_order, is_padded, input_of, input_order, set_of};
 ghost use Rattle.kjw_sets.specs.Words.{state_letters, scenes};
@@ -10,7 +12,7 @@ use panels::{KINDS, MOST_VOLUME};
 use terms::Answer;
 
 // What an enquiry asks for and a notice tells: POWR, AMUT, PMUT, VOLU, INPT, SCEN.
-#[derive(Drop)]
+#[derive(Clone, Copy)]
 pub enum State {
     Power,
     AudioMute,
@@ -21,7 +23,7 @@ pub enum State {
 }
 
 // What an understood frame orders. An input is its type and its port; a pass is answered and changes nothing.
-#[derive(Drop)]
+#[derive(Clone, Copy)]
 pub enum Order {
     SetPower(u8),
     TogglePower,
@@ -39,7 +41,7 @@ pub enum Order {
 }
 
 // What a message says: refused with 3 or 4, not understood (6), or an order.
-#[derive(Drop)]
+#[derive(Clone, Copy)]
 pub enum Heard {
     Refused(Answer),
     NotUnderstood,

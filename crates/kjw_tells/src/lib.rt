@@ -1,4 +1,6 @@
 // KJW: what goes back, written (document 01, "KJW (003)").
+#![tactic(auto)]
+
 ghost use Rattle.std.specs.Prelude.{◌≡◌, ◌+◌, ◌≤◌, length};
 ghost use Rattle.laws.specs.Bytes.{over, Sent};
 ghost use Rattle.kjw_asks.specs.Frames.{frame_of, type_answer};
@@ -10,7 +12,7 @@ use octets::lay;
 use panels::KRecord;
 
 // What goes back: nothing, the answer of sixteen `F`, that of sixteen `0`, that and a notice, or a state's value.
-#[derive(Drop)]
+#[derive(Clone, Copy)]
 pub enum Reply {
     Silent,
     Rejected,

@@ -1,4 +1,6 @@
 // KJW: what a state is, in sixteen bytes (document 01, "KJW (003)").
+#![tactic(auto)]
+
 ghost use Rattle.std.specs.Prelude.{◌≡◌, ◌++◌, get_or, replicate};
 ghost use Rattle.decimals.specs.Decimals.{in_digits};
 ghost use Rattle.kjw_values.specs.Values.{switch_word, scene_word, input_word, value_of};

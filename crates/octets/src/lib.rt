@@ -1,5 +1,7 @@
 // Leaves that many crates use: a byte read at any place, bytes laid over an area, areas compared, numbers listed and bounded, and
 // numbers high byte first.
+#![tactic(auto)]
+
 ghost use Rattle.std.specs.Prelude.{◌≡◌, [], ◌∷◌, ◌≤◌, eqb, get_or};
 ghost use Rattle.std.specs.Int.Count.{ones};
 ghost use Rattle.laws.specs.Bytes.{same, begins, laid};

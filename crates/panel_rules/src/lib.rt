@@ -1,4 +1,6 @@
 // A panel judged by the rules: its family, its IDs, and its own family's settings (document 01, "The box and its messages").
+#![tactic(auto)]
+
 ghost use Rattle.std.specs.Prelude.{◌≡◌};
 ghost use Rattle.laws.specs.Lists.{every};
 ghost use Rattle.panels.specs.Valid.{ok_shift, ok_bias, ok_inputs, ok_gain, ok_balance, ok_w, ok_input, ok_k, ok_ids, zero_ids, ok_panel};

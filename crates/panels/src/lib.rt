@@ -1,4 +1,6 @@
 // The box's records: plain numbers only, so that every bit pattern that a C host can hand in is a value, and validity judges it.
+#![tactic(auto)]
+
 ghost use Rattle.std.specs.Prelude.{◌≡◌};
 ghost use Rattle.panels.specs.Records.{zero_panel};
 
@@ -22,7 +24,7 @@ pub const MOST_VOLUME: u8 = 100;
 // The inputs of a W panel: the code of the connector in use, the code of the preset white balance, and which of the ten
 // connectors are ON, in the order of the table of their codes.
 #[repr(C)]
-#[derive(Drop)]
+#[derive(Clone, Copy)]
 pub struct Inputs {
     pub used: u8,
     pub preset: u8,
@@ -31,7 +33,7 @@ pub struct Inputs {
 
 // White balance: R, G, B.
 #[repr(C)]
-#[derive(Drop)]
+#[derive(Clone, Copy)]
 pub struct Balance {
     pub gains: [u16; 3],
     pub biases: [i16; 3],
@@ -39,7 +41,7 @@ pub struct Balance {
 
 // The settings of a W panel: those of the table and the flip, SHIFTH and SHIFTV, the inputs and the white balance.
 #[repr(C)]
-#[derive(Drop)]
+#[derive(Clone, Copy)]
 pub struct WRecord {
     pub settings: [u8; 19],
     pub shifts: [i8; 2],
@@ -50,7 +52,7 @@ pub struct WRecord {
 
 // The settings of a K panel: power, audio mute, picture mute, volume, scene, and the input's type and port.
 #[repr(C)]
-#[derive(Drop)]
+#[derive(Clone, Copy)]
 pub struct KRecord {
     pub power: u8,
     pub amut: u8,
@@ -63,7 +65,7 @@ pub struct KRecord {
 
 // A panel: its family (57h W, 4Bh K), its IDs, and the settings of both families side by side.
 #[repr(C)]
-#[derive(Drop)]
+#[derive(Clone, Copy)]
 pub struct Panel {
     pub family: u8,
     pub group: GroupId,
@@ -75,7 +77,7 @@ pub struct Panel {
 
 // "A box holds 1 to 8 panels, numbered from 1 in the order given."
 #[repr(C)]
-#[derive(Drop)]
+#[derive(Clone, Copy)]
 pub struct DisplayBox {
     pub count: usize,
     pub panels: [Panel; 8],

@@ -1,5 +1,7 @@
 // A plain receiver beside the first, to be followed by eye: two rules over a whole buffer, each passing the rest of the bytes to the
 // other (document 02, §7).
+#![tactic(auto)]
+
 ghost use Rattle.std.specs.Prelude.{◌≡◌, true, ◌+◌, ◌<◌, ◌^◌, length};
 ghost use Rattle.receiver.specs.Stream.{can_begin};
 ghost use Rattle.reader.specs.Plain.{listing, between, plain};
@@ -9,7 +11,7 @@ use receiver::{noise_in, whole_in};
 // The list: how many entries, the start and length of each, where it ended, and 1 where it stopped there at a 65th, else 0. Numbers
 // only, so that any bits that a host lends are a value.
 #[repr(C)]
-#[derive(Drop)]
+#[derive(Clone, Copy)]
 pub struct Listing {
     pub count: usize,
     pub starts: [usize; 64],
@@ -19,7 +21,7 @@ pub struct Listing {
 }
 
 // What a rule says of the list beside its two arrays. These are lent on, and not handed over: a call deeper then costs little stack.
-#[derive(Drop)]
+#[derive(Clone, Copy)]
 struct Stop {
     count: usize,
     end: usize,

@@ -1,4 +1,6 @@
 // SDCP off the wire: a receiver takes the pieces of a TCP link, cut anywhere, and gives whole packets, one a call (document 02, §1).
+#![tactic(auto)]
+
 ghost use Rattle.std.specs.Prelude.{◌≡◌, [], ◌++◌, ◌+◌, ◌-◌, ◌<◌, ◌≤◌, length, get_or, take, drop};
 ghost use Rattle.laws.specs.Bytes.{Sent};
 ghost use Rattle.receiver.specs.Stream.{agrees, can_begin, noise, sought, size_of, whole};
@@ -11,14 +13,14 @@ const FRONT: [u8; 6] = *b"\x03\x0BSONY";
 
 // "a receiver for each TCP link": its record, which the caller owns and lends
 #[repr(C)]
-#[derive(Drop)]
+#[derive(Clone, Copy)]
 pub struct Receiver {
     pub held: usize,
     pub store: [u8; 512],
 }
 
 // What a call did: the receiver after it, how many bytes of the piece it took, and the length of what it hands out, 0 for nothing.
-#[derive(Drop)]
+#[derive(Clone, Copy)]
 pub struct Received {
     pub after: Receiver,
     pub taken: usize,

@@ -1,10 +1,12 @@
 // The buttons of the KJW remote control: what each code of document 003's table asks (document 02, §6).
+#![tactic(auto)]
+
 ghost use Rattle.std.specs.Prelude.{◌≡◌};
 ghost use Rattle.remote.specs.Codes.{button_of};
 ghost use Rattle.remote.specs.Buttons.{button_numbered};
 
 // What a code asks: nothing, since it is none, or no change, or one; an HDMI button has its port.
-#[derive(Drop)]
+#[derive(Clone, Copy)]
 pub enum Button {
     Unlisted,
     Idle,

@@ -1,4 +1,6 @@
 // Reads a script from standard input and writes what its lines answer (docs/SCRIPTS.md): what that is stands in `script_run`.
+#![tactic(auto)]
+
 ghost use Rattle.std.specs.Prelude.{ℕ, ◌≤◌, List, ◌++◌, length};
 ghost use Rattle.script_run.specs.Calls.{Reached};
 

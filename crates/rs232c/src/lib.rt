@@ -1,4 +1,6 @@
 // RS-232C: what a W panel does with a frame (document 01, "RS-232C (002, 004)").
+#![tactic(auto)]
+
 ghost use Rattle.std.specs.Prelude.{◌≡◌};
 ghost use Rattle.turns.specs.Turns.{Takes};
 ghost use Rattle.rs232c_asks.specs.Asks.{values_of};
@@ -13,7 +15,7 @@ use rs232c_tells::{Reply, reply_to, send};
 use terms::Answer;
 
 // What a message did: the record after it, the answer, and the reply's length.
-#[derive(Drop)]
+#[derive(Clone, Copy)]
 pub struct Outcome {
     pub after: WRecord,
     pub answer: Answer,

@@ -1,4 +1,6 @@
 // RS-232C: what a frame asks, whatever the panel (document 01, "RS-232C (002, 004)"; document 02, §8).
+#![tactic(auto)]
+
 ghost use Rattle.std.specs.Prelude.{◌≡◌, ◌≤◌, length};
 ghost use Rattle.laws.specs.Lists.{listed};
 ghost use Rattle.panels.specs.Records.{connectors, presets};
@@ -11,7 +13,7 @@ use sums::sums_to_zero;
 use terms::{Answer, Envelope, Part};
 
 // What a command block orders.
-#[derive(Drop)]
+#[derive(Clone, Copy)]
 pub enum Order {
     // 21h: the marks, and the codes of connector and preset
     Config(u8, u8),
@@ -26,7 +28,7 @@ pub enum Order {
 }
 
 // What a message asks. The number is the source, to which the reply goes.
-#[derive(Drop)]
+#[derive(Clone, Copy)]
 pub enum Heard {
     // 3 and 4: no reply
     Refused(Answer),

@@ -1,4 +1,6 @@
 // RS-232C: 21h and 22h carried out on a W panel's inputs (document 01, "RS-232C (002, 004)").
+#![tactic(auto)]
+
 ghost use Rattle.std.specs.Prelude.{◌≡◌};
 ghost use Rattle.rs232c_inputs.specs.Inputs.{place_of, used_after, preset_after, turned_off, on_after, configured_by, selected_by};
 

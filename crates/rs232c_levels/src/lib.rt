@@ -1,4 +1,6 @@
 // RS-232C: 40h carried out on a W panel's white balance (document 01, "RS-232C (002, 004)").
+#![tactic(auto)]
+
 ghost use Rattle.std.specs.Prelude.{◌≡◌, ◌≤◌, get_or, take, drop};
 ghost use Rattle.rs232c_asks.specs.Asks.{values_of};
 ghost use Rattle.rs232c_levels.specs.Levels.{gain_of, bias_of, put, decode, puts, balanced_by};

@@ -1,4 +1,6 @@
 // RS-232C: what goes back, written (document 01, "RS-232C (002, 004)").
+#![tactic(auto)]
+
 ghost use Rattle.std.specs.Prelude.{◌≡◌, ◌≤◌, length};
 ghost use Rattle.laws.specs.Bytes.{Sent};
 ghost use Rattle.rs232c_tells.specs.Room.{fitting};
@@ -20,7 +22,7 @@ const STATE: u8 = 0x7E;
 const BALANCES: u8 = 0x71;
 
 // Three numbers: R, G, B.
-#[derive(Drop)]
+#[derive(Clone, Copy)]
 pub struct Three {
     pub r: u16,
     pub g: u16,
@@ -28,7 +30,7 @@ pub struct Three {
 }
 
 // What is sent back, and to whom.
-#[derive(Drop)]
+#[derive(Clone, Copy)]
 pub enum Reply {
     Silent,
     Ack(u8),

@@ -1,5 +1,7 @@
 // What a line of a script does to what the script holds, and what it writes: the order that the line is, carried out
 // (docs/SCRIPTS.md).
+#![tactic(auto)]
+
 ghost use Rattle.std.specs.Prelude.{◌≡◌, ◌<◌};
 ghost use Rattle.script_receivers.specs.Receivers.{pieced_by};
 ghost use Rattle.script_orders.specs.Orders.{ordered};
@@ -13,14 +15,14 @@ use script_receivers::{LINKS, answer_piece};
 use script_words::number_at;
 
 // What a script holds: the box, and a receiver for each TCP link.
-#[derive(Drop)]
+#[derive(Clone, Copy)]
 pub struct Held {
     pub made: DisplayBox,
     pub receivers: [Receiver; 8],
 }
 
 // What a line left: what is held after it, and the length of its text.
-#[derive(Drop)]
+#[derive(Clone, Copy)]
 pub struct Left {
     pub after: Held,
     pub len: usize,

@@ -1,4 +1,6 @@
 // What a line answers: the box after it, and a text of its own (docs/SCRIPTS.md).
+#![tactic(auto)]
+
 ghost use Rattle.std.specs.Prelude.{◌≡◌, length, take};
 ghost use Rattle.script_answers.specs.Answers.{Answers, writes, answerText, replied};
 ghost use Rattle.script_answers.specs.Endings.{Ends};
@@ -8,7 +10,7 @@ use script_text::{put, put_placed, put_reply};
 use terms::{Answer, answer_number, answer_place};
 
 // What a line did: the box after it, and the length of its text.
-#[derive(Drop)]
+#[derive(Clone, Copy)]
 pub struct Answered {
     pub after: DisplayBox,
     pub len: usize,

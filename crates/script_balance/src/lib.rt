@@ -1,4 +1,6 @@
 // The white balance in the line of a panel's record (docs/SCRIPTS.md, `show`).
+#![tactic(auto)]
+
 ghost use Rattle.std.specs.Prelude.{[], ◌∷◌, get_or, ◌≡◌};
 ghost use Rattle.script_text.specs.Puts.{Puts};
 ghost use Rattle.script_balance.specs.Balance.{gains_text, bias_text, biases_text, balance_text};

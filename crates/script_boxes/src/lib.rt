@@ -1,4 +1,6 @@
 // The configuration that a `box` line writes (docs/SCRIPTS.md, "Orders").
+#![tactic(auto)]
+
 ghost use Rattle.std.specs.Prelude.{◌≡◌, ◌*◌, ◌≤◌, length};
 ghost use Rattle.laws.specs.Bytes.{Sent};
 ghost use Rattle.script_boxes.specs.Boxes.{panels_in, configuration, configuration_of};

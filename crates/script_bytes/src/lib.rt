@@ -1,4 +1,6 @@
 // The orders on bytes alone: an advert read or written, a checksum tested (docs/SCRIPTS.md).
+#![tactic(auto)]
+
 ghost use Rattle.std.specs.Prelude.{◌≡◌};
 ghost use Rattle.sdap.specs.Rules.{read_of};
 ghost use Rattle.script_words.specs.Words.{number_at, bytes_at};

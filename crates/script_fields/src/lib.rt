@@ -1,4 +1,6 @@
 // The line of an advert's fields (docs/SCRIPTS.md, `advert`).
+#![tactic(auto)]
+
 ghost use Rattle.script_text.specs.Puts.{Puts};
 ghost use Rattle.script_fields.specs.Fields.{head_text, addresses_text, tail_text, advert_text};
 

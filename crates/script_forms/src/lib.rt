@@ -1,4 +1,6 @@
 // Forms: a text with a number in the place of each `#` (docs/SCRIPTS.md).
+#![tactic(auto)]
+
 ghost use Rattle.std.specs.Prelude.{◌≡◌, ◌<◌, ◌≤◌, get_or};
 ghost use Rattle.script_text.specs.Puts.{Puts};
 ghost use Rattle.script_forms.specs.Forms.{mark_text, marks_of, numbers_text};

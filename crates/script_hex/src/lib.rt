@@ -1,4 +1,6 @@
 // HEX, the words that write bytes: which they are, and what a digit is worth (docs/SCRIPTS.md, "Lines").
+#![tactic(auto)]
+
 ghost use Rattle.std.specs.Prelude.{◌≡◌, ◌<◌, ◌&&◌, leb};
 ghost use Rattle.laws.specs.Lists.{every};
 ghost use Rattle.script_hex.specs.Hex.{is_hex_digit, hex_value, is_hex};

@@ -1,4 +1,6 @@
 // Which order a line of a script is, and the configuration that a `box` line writes (docs/SCRIPTS.md, "Orders").
+#![tactic(auto)]
+
 ghost use Rattle.std.specs.Prelude.{map, ◌≡◌, ◌*◌};
 ghost use Rattle.script_words.specs.KindNumbers.{kind_of};
 ghost use Rattle.script_lines.specs.Orders.{asks, panel_kinds, asks_box, order_rows, order_in, is_passed_over, order_of};
@@ -8,7 +10,7 @@ use script_boxes::panels_in;
 use script_words::{ANY, AREA, FAMILY, HEX, LINK, are_shaped, length_before};
 
 // The orders on the box alone. A line that is passed over and one that is no order count among them.
-#[derive(Drop)]
+#[derive(Clone, Copy)]
 pub enum BoxOrder {
     Passed,
     Unread,
@@ -25,7 +27,7 @@ pub enum BoxOrder {
 }
 
 // The orders of a script: on the box alone, or a piece for a receiver.
-#[derive(Drop)]
+#[derive(Clone, Copy)]
 pub enum Order {
     OnBox(BoxOrder),
     Piece,

@@ -1,4 +1,6 @@
 // The order on a whole buffer: what the plain reader lists of it (docs/SCRIPTS.md, `plain`).
+#![tactic(auto)]
+
 ghost use Rattle.std.specs.Prelude.{◌≤◌};
 ghost use Rattle.reader.specs.Plain.{plain};
 ghost use Rattle.script_words.specs.Words.{bytes_at};

@@ -1,4 +1,6 @@
 // The orders that are messages to the box (docs/SCRIPTS.md).
+#![tactic(auto)]
+
 ghost use Rattle.steps.specs.Messages as messages;
 ghost use Rattle.steps.specs.Step.{step};
 ghost use Rattle.ways_in.specs.Promise.{message_of};

@@ -1,4 +1,6 @@
 // The orders on the box alone, each carried out: what it does to the box, and what it writes (docs/SCRIPTS.md).
+#![tactic(auto)]
+
 ghost use Rattle.script_answers.specs.Answers.{Answers};
 ghost use Rattle.script_orders.specs.Orders.{ordered};
 

@@ -1,4 +1,6 @@
 // The orders on a box's panels: a box made, a panel shown (docs/SCRIPTS.md).
+#![tactic(auto)]
+
 ghost use Rattle.std.specs.Prelude.{◌≡◌};
 ghost use Rattle.configure.specs.Configure.{configured};
 ghost use Rattle.script_words.specs.Words.{number_at};

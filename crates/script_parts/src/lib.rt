@@ -1,4 +1,6 @@
 // Parts of the line of a panel's record: the connectors, the white balance, and the line of a K panel (docs/SCRIPTS.md, `show`).
+#![tactic(auto)]
+
 ghost use Rattle.std.specs.Prelude.{cond, [], ◌∷◌, eqb, ◌≡◌};
 ghost use Rattle.laws.specs.Bytes.{ascii};
 ghost use Rattle.panels.specs.Records.{connectors};

@@ -1,4 +1,6 @@
 // Lines of a script that arrive in pieces: what of a piece belongs to the line, and where the next one starts (docs/SCRIPTS.md).
+#![tactic(auto)]
+
 ghost use Rattle.std.specs.Prelude.{◌≡◌};
 ghost use Rattle.script_pieces.specs.Parts.{Takes};
 
@@ -6,7 +8,7 @@ use script_text::put;
 use script_words::length_before;
 
 // What was taken: how much of the line stands in the store, where the next line starts, and whether this one is whole.
-#[derive(Drop)]
+#[derive(Clone, Copy)]
 pub struct Part {
     pub kept: usize,
     pub next: usize,

@@ -1,4 +1,6 @@
 // The order that is a piece for a receiver: each packet that the receiver hands out goes to the box at once (docs/SCRIPTS.md).
+#![tactic(auto)]
+
 ghost use Rattle.std.specs.Prelude.{◌≤◌, length};
 ghost use Rattle.script_answers.specs.Answers.{Answers, filler};
 ghost use Rattle.script_receivers.specs.Receivers.{packeted, pieced, pieced_by, Links};
@@ -16,7 +18,7 @@ use script_words::{AREA, bytes_at, number_at};
 pub const LINKS: u32 = 8;
 
 // What a piece did: box and receiver after it, and the length of its text.
-#[derive(Drop)]
+#[derive(Clone, Copy)]
 pub struct Linked {
     pub after: DisplayBox,
     pub receiver: Receiver,
@@ -25,7 +27,7 @@ pub struct Linked {
 
 // Between two calls of the receiver: the box, the receiver, how much of the piece is taken and how much text is put, and whether a
 // call has handed out nothing.
-#[derive(Drop)]
+#[derive(Clone, Copy)]
 struct Between {
     made: DisplayBox,
     receiver: Receiver,

@@ -1,4 +1,6 @@
 // A script that arrives in pieces: its lines are answered one after the other, each with what the last one left of box and receivers (docs/SCRIPTS.md).
+#![tactic(auto)]
+
 ghost use Rattle.std.specs.Prelude.{◌≡◌, ◌≤◌, length, take};
 ghost use Rattle.panels.specs.Records.{no_box};
 ghost use Rattle.script.specs.Answers.{at_start};
@@ -19,7 +21,7 @@ const ROOM: usize = 24576;
 
 // How far a script is: what it holds, how much of the line that has not ended stands in the store, where the piece goes on, and how much
 // of the area is text.
-#[derive(Drop)]
+#[derive(Clone, Copy)]
 pub struct Progress {
     pub held: Held,
     pub kept: usize,

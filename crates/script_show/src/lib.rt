@@ -1,4 +1,6 @@
 // The line of a panel's record (docs/SCRIPTS.md, `show`).
+#![tactic(auto)]
+
 ghost use Rattle.std.specs.Prelude.{◌∷◌};
 ghost use Rattle.vmc.specs.Orders.{says_of};
 ghost use Rattle.vmc_tells.specs.Texts.{text_of};

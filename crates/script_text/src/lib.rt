@@ -1,4 +1,6 @@
 // What a script's orders write: text put into an area from a place on, cut off where the area ends (docs/SCRIPTS.md).
+#![tactic(auto)]
+
 ghost use Rattle.std.specs.Prelude.{◌≡◌, ◌<◌};
 ghost use Rattle.decimals.specs.Plain.{plain};
 ghost use Rattle.script_text.specs.Puts.{Puts};

@@ -1,4 +1,6 @@
 // The words of a script's line: their kinds, and the numbers and bytes that they write (docs/SCRIPTS.md, "Lines").
+#![tactic(auto)]
+
 ghost use Rattle.std.specs.Prelude.{◌≡◌, map, suc, ◌+◌, ◌*◌, ◌≤◌, length, get_or, drop};
 ghost use Rattle.laws.specs.Bytes.{Sent};
 ghost use Rattle.decimals.specs.Decimals.{up_to};

@@ -1,4 +1,6 @@
 // The advert writer on the words of a `write` line (docs/SCRIPTS.md).
+#![tactic(auto)]
+
 ghost use Rattle.std.specs.Prelude.{◌≡◌};
 ghost use Rattle.script_words.specs.Words.{number_at};
 ghost use Rattle.sdap.specs.Rules.{Written};

@@ -1,11 +1,13 @@
 // The SDAP advert of 122 bytes: its fields, the rules that reader and writer share, and the writer's answer (document 01, "SDAP advert, 122 bytes").
+#![tactic(auto)]
+
 ghost use Rattle.std.specs.Prelude.{◌≡◌, not, ◌&&◌, eqb};
 ghost use Rattle.sdap.specs.Rules.{is_text, are_texts, is_category, is_filled, verdict, text_length, is_sized, write_verdict};
 
 use terms::{Answer, GroupId, UnitId};
 
 // The fields of an advert, in the order of its bytes.
-#[derive(Drop)]
+#[derive(Clone, Copy)]
 pub struct Advert {
     pub category: u8,
     pub product: [u8; 12],
@@ -22,7 +24,7 @@ pub struct Advert {
 }
 
 // What the reader gives: the answer, and the fields, "all zero when refused".
-#[derive(Drop)]
+#[derive(Clone, Copy)]
 pub struct Read {
     pub answer: Answer,
     pub fields: Advert,

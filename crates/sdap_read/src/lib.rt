@@ -1,4 +1,6 @@
 // The advert reader (document 01, "SDAP advert, 122 bytes").
+#![tactic(auto)]
+
 ghost use Rattle.std.specs.Prelude.{◌≡◌, ◌+◌, ◌≤◌, length};
 ghost use Rattle.laws.specs.Bytes.{part};
 ghost use Rattle.laws.specs.Numbers.{number};

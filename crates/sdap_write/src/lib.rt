@@ -1,4 +1,6 @@
 // The advert writer (document 01, "SDAP advert, 122 bytes").
+#![tactic(auto)]
+
 ghost use Rattle.std.specs.Prelude.{◌≡◌, ◌≤◌, length};
 ghost use Rattle.laws.specs.Bytes.{over, laid, sent};
 ghost use Rattle.laws.specs.Numbers.{in_bytes};

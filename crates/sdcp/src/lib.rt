@@ -1,4 +1,6 @@
 // SDCP: one packet to one W panel that it is addressed to (document 01, "SDCP and VMC (001, 002, 004)").
+#![tactic(auto)]
+
 ghost use Rattle.std.specs.Prelude.{◌≤◌, length};
 ghost use Rattle.laws.specs.Bytes.{Sent};
 ghost use Rattle.turns.specs.Turns.{Takes};
@@ -12,7 +14,7 @@ use vmc::{obey, tell};
 use vmc_tells::{Says, spell};
 
 // What is sent back by TCP.
-#[derive(Drop)]
+#[derive(Clone, Copy)]
 pub enum Reply {
     Silent,
     Ng,
@@ -20,7 +22,7 @@ pub enum Reply {
 }
 
 // What a packet did: the record after it, the answer, and the reply's length.
-#[derive(Drop)]
+#[derive(Clone, Copy)]
 pub struct Outcome {
     pub after: WRecord,
     pub answer: Answer,

@@ -1,5 +1,7 @@
 // SDCP: what a packet asks, whoever it is addressed to and whatever the panel (document 01, "SDCP and VMC (001, 002, 004)"; document
 // 02, §5 and §8).
+#![tactic(auto)]
+
 ghost use Rattle.std.specs.Prelude.{◌≡◌, ◌≤◌, length};
 ghost use Rattle.vmc_asks.specs.Asks.{asks_status};
 ghost use Rattle.sdcp_asks.specs.Asks.{is_ours, envelope_of, data_of, heard_of, cast_of};
@@ -9,7 +11,7 @@ use terms::{Answer, Envelope, Part};
 use vmc_asks::{Order, Words, asks_status, read_data};
 
 // What a packet asks, whoever is addressed.
-#[derive(Drop)]
+#[derive(Clone, Copy)]
 pub enum Heard {
     // 3 and 4, and by UDP 8: no reply
     Refused(Answer),

@@ -1,4 +1,6 @@
 // The names of the settings and the words of their values as texts: how long each is, and laid over an area (document 01, "SDCP and VMC").
+#![tactic(auto)]
+
 ghost use Rattle.std.specs.Prelude.{◌≡◌, ◌<◌, length};
 ghost use Rattle.laws.specs.Bytes.{laid};
 ghost use Rattle.setting_texts.specs.Names.{lead_of, words_of, word_of};

@@ -1,4 +1,6 @@
 // The words of the settings: which setting a name is, and which of its values a word is (document 01, "SDCP and VMC").
+#![tactic(auto)]
+
 ghost use Rattle.std.specs.Prelude.{◌≡◌, ℕ, ◌+◌, ◌<◌, ◌≤◌, length, take, get_or};
 ghost use Rattle.laws.specs.Bytes.{begins};
 ghost use Rattle.setting_words.specs.Names.{first_of, named_by, led_by, chosen_by};
@@ -10,7 +12,7 @@ use setting_texts::{first_word, row_text, text_length, word_count};
 use settings::NAME_COUNT;
 
 // A place in a table, or none.
-#[derive(Drop)]
+#[derive(Clone, Copy)]
 pub enum Found {
     At(usize),
     Nothing,

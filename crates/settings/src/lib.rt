@@ -1,4 +1,6 @@
 // The one table of settings: the columns of numbers of specs/Table.antt, as code can read them.
+#![tactic(auto)]
+
 ghost use Rattle.std.specs.Prelude.{◌≡◌};
 ghost use Rattle.settings.specs.Table.{mosts, starts};
 

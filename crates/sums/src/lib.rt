@@ -1,4 +1,6 @@
 // The sum of bytes, and the checksum test.
+#![tactic(auto)]
+
 ghost use Rattle.std.specs.Prelude.{◌≡◌, ◌%◌};
 ghost use Rattle.sums.specs.Sums.{sum_of, sums_to_zero};
 

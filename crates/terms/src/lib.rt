@@ -1,9 +1,11 @@
 // The terms that every part of the box shares: its answers with their numbers, and the two kinds of ID.
+#![tactic(auto)]
+
 ghost use Rattle.std.specs.Prelude.{◌≡◌, eqb};
 ghost use Rattle.terms.specs.Answers.{partNumber, partPlace, number_of, answerPlace};
 
 // The part of a message's envelope that is wrong (document 02, §8).
-#[derive(Drop)]
+#[derive(Clone, Copy)]
 pub enum Part {
     // 9 request byte
     Request,
@@ -20,14 +22,14 @@ pub enum Part {
 }
 
 // What a message's envelope is found to be: good, or the first part of it that is wrong.
-#[derive(Drop)]
+#[derive(Clone, Copy)]
 pub enum Envelope {
     Good,
     Wrong(Part),
 }
 
 // What the box answers to a message, a configuration or an advert (document 01, "Answer numbers").
-#[derive(Drop)]
+#[derive(Clone, Copy)]
 pub enum Answer {
     // 0 carried out
     Done,
@@ -117,11 +119,11 @@ pub fn answer_place(a: Answer) -> u16
 
 // "A group ID is never taken for a unit ID, though each is one byte": each has a type of its own.
 #[repr(C)]
-#[derive(Drop)]
+#[derive(Clone, Copy)]
 pub struct GroupId(pub u8);
 
 #[repr(C)]
-#[derive(Drop)]
+#[derive(Clone, Copy)]
 pub struct UnitId(pub u8);
 
 // Like is compared with like only.

@@ -1,4 +1,6 @@
 // The end of a string as some consoles send it: how much is left of the data without it (document 02, §2).
+#![tactic(auto)]
+
 ghost use Rattle.std.specs.Prelude.{◌≡◌, length};
 ghost use Rattle.trimming.specs.Trimming.{unterminated, unspaced, trimmed};
 

@@ -1,4 +1,6 @@
 // VMC: an order carried out on a W panel's record, and what is said of it (document 01, "SDCP and VMC"; document 02, §4).
+#![tactic(auto)]
+
 ghost use Rattle.std.specs.Prelude.{◌≡◌, ◌<◌, ◌≤◌, set};
 ghost use Rattle.vmc.specs.Orders.{flip_of, flipped_to, flip_says, assigned, value_at, carried, says_of};
 ghost use Rattle.vmc.specs.Changes.{settings_after, shifts_after};
@@ -67,7 +69,7 @@ fn value_at(settings: [u8; 19], k: usize) -> u8
 }
 
 // What an order can change of a record.
-#[derive(Drop)]
+#[derive(Clone, Copy)]
 struct Changeable {
     settings: [u8; 19],
     shifts: [i8; 2],

@@ -1,4 +1,6 @@
 // VMC: what the words of a packet's data ask, whatever the panel (document 01, "SDCP and VMC"; document 02, §2 and §5).
+#![tactic(auto)]
+
 ghost use Rattle.std.specs.Prelude.{◌≡◌, ◌≤◌};
 ghost use Rattle.settings.specs.Table.{most_shift};
 ghost use Rattle.setting_words.specs.Names.{chosen_by};
@@ -12,7 +14,7 @@ use settings::{LEVEL_COUNT, MOST_LEVEL, MOST_SHIFT, SETTING_COUNT};
 use trimming::trimmed_length;
 
 // What the words order or ask. The number is the name's: 0 to 20 are the settings, 21 and 22 SHIFTH and SHIFTV.
-#[derive(Drop)]
+#[derive(Clone, Copy)]
 pub enum Order {
     // STATset with a level or a choice: the setting and its value
     Set(usize, u8),
@@ -25,7 +27,7 @@ pub enum Order {
 }
 
 // What the data says: an order, or nothing that is understood (6).
-#[derive(Drop)]
+#[derive(Clone, Copy)]
 pub enum Words {
     Understood(Order),
     NotUnderstood,

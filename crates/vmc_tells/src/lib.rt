@@ -1,4 +1,6 @@
 // VMC: the words that go back (document 01, "SDCP and VMC").
+#![tactic(auto)]
+
 ghost use Rattle.std.specs.Prelude.{◌≡◌, ◌≤◌, ◌++◌, length};
 ghost use Rattle.decimals.specs.Decimals.{numeral};
 ghost use Rattle.setting_texts.specs.Names.{lead_of, word_of};
@@ -11,7 +13,7 @@ use setting_texts::{lead_length, put_lead, put_word, word_length};
 use settings::LEVEL_COUNT;
 
 // What an order is told: nothing, a setting's value, or a shift.
-#[derive(Drop)]
+#[derive(Clone, Copy)]
 pub enum Says {
     Bare,
     Value(usize, u8),
@@ -19,7 +21,7 @@ pub enum Says {
 }
 
 // Words at the front of twenty bytes.
-#[derive(Drop)]
+#[derive(Clone, Copy)]
 pub struct Text {
     pub bytes: [u8; 20],
     pub len: usize,

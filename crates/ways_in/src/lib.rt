@@ -1,4 +1,6 @@
 // The box: a message by its way in, and each is the one step of crates/steps (document 01, "The box and its messages").
+#![tactic(auto)]
+
 ghost use Rattle.std.specs.Prelude.{◌≡◌, false, [], ◌<◌, ◌≤◌, eqb, set};
 ghost use Rattle.laws.specs.Runs.{first_each};
 ghost use Rattle.terms.specs.Answers.{number_of};
@@ -18,14 +20,14 @@ use vmc::obey;
 use vmc_asks::Order;
 
 // The ways in: those that have a link and a reply area, and UDP.
-#[derive(Drop)]
+#[derive(Clone, Copy)]
 pub enum Way {
     By(Line),
     Udp,
 }
 
 // What a message did: the box after it, the answer, the reply's length, and whether the answer is 0: a refusal has nothing to store.
-#[derive(Drop)]
+#[derive(Clone, Copy)]
 pub struct Outcome {
     pub after: DisplayBox,
     pub answer: Answer,
@@ -34,7 +36,7 @@ pub struct Outcome {
 }
 
 // What a message did to its panel.
-#[derive(Drop)]
+#[derive(Clone, Copy)]
 struct Acted {
     after: Panel,
     answer: Answer,

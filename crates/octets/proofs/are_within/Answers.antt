@@ -1,0 +1,18 @@
+use Prim.Native.Nat.{ℕ, ◌<◌}
+use mathlib.Core.Path.{◌≡◌, refl, sym}
+use mathlib.Core.Bool.{false, and-false}
+use mathlib.Core.List.{List, [], ◌∷◌}
+use lib.Dec.{leb}
+use lib.ListN.{length}
+use native.Mathlib.Omega.{arith}
+use Rattle.laws.specs.Lists.{within}
+use Rattle.octets.proofs.are_within.Goals as goal
+
+-- a number without a bound
+unbounded : (l bs : List ℕ) → length bs < length l → within l bs ≡ false
+unbounded [] bs h = absurd (omega arith)
+unbounded (x ∷ l) [] h = refl
+unbounded (x ∷ l) (b ∷ bs) h = rw (unbounded l bs (omega arith)) (and-false (leb x b))
+
+pub returns-then-bounds-n : goal.returns-then-bounds-n
+returns-then-bounds-n c = sym (unbounded c.args.numbers.now c.args.bounds.now c.if-bounds-n.true)

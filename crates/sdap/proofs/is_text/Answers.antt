@@ -1,0 +1,41 @@
+use Prim.Native.Nat.{ℕ, ◌-◌, ◌≤◌}
+use mathlib.Core.Path.{◌≡◌, refl, sym, ◌∙◌}
+use mathlib.Core.Bool.{Bool, true, false, cond, not, ◌&&◌, and-true}
+use mathlib.Core.List.{List, [], ◌∷◌}
+use lib.ListN.{length, drop, length-drop}
+use lib.Dec.{eqb}
+use borrow.Author.Tests.{eqb-true, eqb-false, eq-eqb, ne_eqb}
+use native.Mathlib.Omega.{arith}
+use Rattle.laws.specs.Lists.{every}
+use Rattle.sdap.specs.Rules.{is_text}
+use Rattle.sdap.proofs.is_text.Goals as goal
+
+joined-text : (l : List ℕ) → joined l ≡ is_text l
+unfolding is_text
+joined-text [] = refl
+joined-text (x ∷ []) = one (eqb x 0)
+  where
+    one : (b : Bool) → true ≡ cond b true true
+    one true = refl
+    one false = refl
+joined-text (x ∷ y ∷ l) = more (eqb x 0) (eqb y 0) refl (joined-text (y ∷ l))
+  where
+    more : (b d : Bool) → eqb y 0 ≡ d → joined (y ∷ l) ≡ cond (eqb y 0) (every (eqb 0) l) (is_text l) → (not (b && not (eqb y 0)) && joined (y ∷ l)) ≡ cond b (eqb 0 y && every (eqb 0) l) (cond (eqb y 0) (every (eqb 0) l) (is_text l))
+    more false d q e = e
+    more true true q e = rw (eq-eqb 0 y (sym (eqb-true y 0 q)), q) (e ∙ rw q)
+    more true false q e = rw (ne_eqb 0 y (λ z. eqb-false y 0 q (sym z)), q)
+
+-- one byte or none is left
+last : (t : List ℕ) (i : ℕ) → 1 ≤ i → length t ≤ i → joined (drop (i - 1) t) ≡ true
+last t i h k = few (drop (i - 1) t) (simp length-drop (omega arith))
+  where
+    few : (l : List ℕ) → length l ≤ 1 → joined l ≡ true
+    few [] h = refl
+    few (x ∷ []) h = refl
+    few (x ∷ y ∷ l) h = absurd (omega arith)
+
+pub returns : goal.returns
+returns c =
+    let l = c in
+    let t = l.args.t.now in
+    sym (sym (joined-text t) ∙ l.loop-i.invariant.1 ∙ rw (last t l.loop-i.i l.loop-i.invariant.0 (omega arith)) (and-true l.loop-i.ok))
