@@ -24,6 +24,7 @@ rows_ask = refl
 
 -- what two lists say of each element they say of one
 of_each : {A B : Type 0} (f g : A → B) (l : List A) (x : A) → map f l ≡ map g l → Memᴰ x l → f x ≡ g x
+of_each {A = A} {B = B} f g [] x e x4 = elim x4 [ ]
 of_each f g (y ∷ l) x e (Memᴰ.head p) = let q : f y ≡ g y = cc in ap f p ∙ q ∙ ap g (sym p)
 of_each f g (y ∷ l) x e (Memᴰ.tail m) = let q : map f l ≡ map g l = cc in of_each f g l x q m
 
