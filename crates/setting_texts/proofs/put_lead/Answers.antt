@@ -10,4 +10,4 @@ use Rattle.setting_texts.proofs.put_lead.Goals as goal
 pub returns-then-k-ge-NAME_COUNT : goal.returns-then-k-ge-NAME_COUNT
 returns-then-k-ge-NAME_COUNT c =
     let a = c.args in
-    sym (ap (laid a.out-1.now a.at) (get_or-eq_default leads [] c.if-k-ge-NAME_COUNT.true) ∙ laid_none a.out-1.now a.at)
+    sym (ap (laid a.out.now a.at) (get_or-eq_default leads [] c.if-k-ge-NAME_COUNT.true) ∙ laid_none a.out.now a.at)

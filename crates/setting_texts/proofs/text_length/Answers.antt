@@ -1,8 +1,13 @@
 -- `text_length` gives each row's length, arm by arm; behind the last row there is no text.
+use Prim.Native.Nat.{◌≤◌}
+use native.Mathlib.Omega.{arith}
 use mathlib.Core.Path.{sym, ap}
 use lib.ListN.{length}
-use Rattle.setting_texts.proofs.Rules.{above, no_text}
+use Rattle.setting_texts.proofs.Rules.{no_text}
 use Rattle.setting_texts.proofs.text_length.Goals as goal
 
 pub returns-in_default : goal.returns-in_default
-returns-in_default c = let row = c.args.row in sym (ap length (no_text row (above 32 row c.in-0.rest)))
+returns-in_default c =
+    let row = c.args.row in
+    let behind : 32 ≤ row = omega arith in
+    sym (ap length (no_text row behind))
