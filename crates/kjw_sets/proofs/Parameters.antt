@@ -40,7 +40,8 @@ pub switch_ordered : (order : ℕ → Order) (p : List ℕ) → switch_order (or
 unfolding switch_order chosen_from
 switch_ordered order p = go (same p off) (same p on)
   where
-    go : (a b : Bool) → cond a (Understood (order 0)) (cond b (Understood (order 1)) NotUnderstood) ≡ choice_order order (cond a (a_word 0) (cond b (a_word 1) no_word))
+    go : (a b : Bool) → cond a (Understood (order 0)) (cond b (Understood (order 1)) NotUnderstood)
+        ≡ choice_order order (cond a (a_word 0) (cond b (a_word 1) no_word))
     go true b = refl
     go false true = refl
     go false false = refl

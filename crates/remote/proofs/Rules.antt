@@ -56,7 +56,8 @@ unfolding asked_in
 unlisted_in [] n e = refl
 unlisted_in (c ∷ cs) n e = go (eqb n c.code) e (unlisted_in cs n)
   where
-    go : (b : Bool) → (b || listed (map (λ (r : Code). r.code) cs) n) ≡ false → (listed (map (λ (r : Code). r.code) cs) n ≡ false → asked_in cs n ≡ Unlisted) → cond b c.asks (asked_in cs n) ≡ Unlisted
+    go : (b : Bool) → (b || listed (map (λ (r : Code). r.code) cs) n) ≡ false
+        → (listed (map (λ (r : Code). r.code) cs) n ≡ false → asked_in cs n ≡ Unlisted) → cond b c.asks (asked_in cs n) ≡ Unlisted
     go true e r = absurd (false_true (sym e))
     go false e r = r e
 
