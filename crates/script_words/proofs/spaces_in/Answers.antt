@@ -1,0 +1,19 @@
+use Prim.Native.Nat.{◌-◌}
+use mathlib.Core.Logic.{⊎_elim}
+use mathlib.Core.Path.{ap}
+use native.Mathlib.Omega.{arith}
+use lib.ListN.{length}
+use borrow.Author.Rules.{rules}
+use Rattle.script_words.proofs.Words.{words_behind, words_other, words_space}
+use Rattle.script_words.proofs.spaces_in.Goals as goal
+use Rattle.script_words.proofs.spaces_in.Goals.{else-line-i-eq32, then-line-i-eq32}
+
+pub loop-i-preserved : goal.loop-i-preserved
+loop-i-preserved c =
+    let s = c.args.line.now in
+    elim c.if-line-i-eq32.branch [ then-line-i-eq32 w ↦ let e = words_space s c.loop-i.i c.loop-i-test.true w.if-line-i-eq32.true in search rules | else-line-i-eq32 w ↦ let e = words_other s c.loop-i.i c.loop-i-test.true w.if-line-i-eq32.false in search rules ]
+
+pub returns : goal.returns
+returns c =
+    let e = ap length (words_behind c.args.line.now c.loop-i.i (omega arith)) in
+    omega arith
