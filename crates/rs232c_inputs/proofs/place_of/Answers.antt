@@ -1,0 +1,36 @@
+use Prim.Native.Nat.{ℕ, suc, ◌+◌, ◌<◌}
+use mathlib.Core.Path.{◌≡◌, ap, ◌∙◌}
+use mathlib.Core.Bool.{cond}
+use mathlib.Core.List.{List}
+use lib.ListN.{length, get_or, drop}
+use lib.Dec.{eqb}
+use borrow.Author.Tests.{eq-eqb, ne_eqb}
+use borrow.Author.Rules.{rules}
+use native.Mathlib.Omega.{arith}
+use Rattle.laws.proofs.Lists.{from}
+use Rattle.rs232c_inputs.specs.Inputs.{place_in, place_of}
+use Rattle.panels.specs.Records.{connectors}
+use Rattle.rs232c_inputs.proofs.place_of.Goals as goal
+
+place-from : (l : List ℕ) (code i : ℕ) → i < length l → place_in (drop i l) code ≡ cond (eqb code (get_or l i 0)) 0 (suc (place_in (drop (i + 1) l) code))
+place-from l code i h = ap (λ (m : List ℕ). place_in m code) (from l i 0 h)
+
+pub loop-i-init : goal.loop-i-init
+unfolding place_of
+loop-i-init c = (search rules, omega arith)
+
+pub returns-then-code-connectors : goal.returns-then-code-connectors
+returns-then-code-connectors c =
+    let l = c in
+    let code = l.args.code in
+    let h : l.loop-i.i < length connectors = omega arith in
+    let z : place_in (drop l.loop-i.i connectors) code ≡ 0 = place-from connectors code l.loop-i.i h ∙ rw (eq-eqb code (get_or connectors l.loop-i.i 0) c.if-code-connectors.true) in
+    omega (arith, z, l.loop-i.invariant.1)
+
+pub loop-i-preserved : goal.loop-i-preserved
+loop-i-preserved c =
+    let l = c in
+    let code = l.args.code in
+    let h : l.loop-i.i < length connectors = omega arith in
+    let z : place_in (drop l.loop-i.i connectors) code ≡ suc (place_in (drop (l.loop-i.i + 1) connectors) code) = place-from connectors code l.loop-i.i h ∙ rw (ne_eqb code (get_or connectors l.loop-i.i 0) c.if-code-connectors.false) in
+    (search rules, omega (arith, z, l.loop-i.invariant.1))
