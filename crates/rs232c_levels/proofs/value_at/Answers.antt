@@ -4,11 +4,9 @@ use mathlib.Core.Path.{◌≡◌, refl, sym, ap, ◌∙◌}
 use mathlib.Core.List.{List, [], ◌∷◌}
 use lib.ListN.{length, get_or, drop, length-take, length-drop}
 use lib.Seq.{get_or-drop, get_or-take}
-use borrow.Author.Rules.{rules}
 use native.Mathlib.Omega.{arith}
 use Rattle.rs232c_asks.specs.Asks.{data_of, values_in, values_of}
-use Rattle.rs232c_levels.proofs.value_at.Statement.{statement}
-use Rattle.rs232c_levels.proofs.value_at.Tie as tie
+use Rattle.rs232c_levels.proofs.value_at.Goals as goal
 
 value_in : (l : List ℕ) (j : ℕ) → 2 * j + 1 < length l → get_or (values_in l) j 0 ≡ get_or l (2 * j) 0 + 256 * get_or l (2 * j + 1) 0
 value_in [] j h = absurd (omega arith)
@@ -44,65 +42,10 @@ value-is m j h =
 no_value : (m : List ℕ) (j : ℕ) → length m < 9 + 2 * j → get_or (values_of m) j 0 ≡ 0
 no_value m j h = none_in (drop 1 (data_of m)) j (simp (length-drop, length-take, length-drop) (omega arith))
 
-mul-if1 : tie.Need-overflow-mul-if1
-mul-if1 c = search rules
+pub returns-then-m-j : goal.returns-then-m-j
+returns-then-m-j c = sym (no_value c.args.m.now c.args.j (omega arith))
 
-add-if1 : tie.Need-overflow-add-if1
-add-if1 c = search rules
-
-returns : tie.Need-returns
-returns c = sym (no_value c.before.before.args.m.now c.before.before.args.j (omega arith))
-
-mul-byte-at : tie.Need-overflow-mul-byte-at
-mul-byte-at c = search rules
-
-add-byte-at : tie.Need-overflow-add-byte-at
-add-byte-at c = search rules
-
-byte-at-requires : tie.Need-byte-at-requires
-byte-at-requires c κs = search rules
-
-cast-result : tie.Need-overflow-cast-result
-cast-result c = search rules
-
-mul-byte-at-2 : tie.Need-overflow-mul-byte-at-2
-mul-byte-at-2 c = search rules
-
-add-byte-at-2 : tie.Need-overflow-add-byte-at-2
-add-byte-at-2 c = search rules
-
-byte-at-requires-2 : tie.Need-byte-at-requires-2
-byte-at-requires-2 c κs = search rules
-
-cast-result-2 : tie.Need-overflow-cast-result-2
-cast-result-2 c = search rules
-
-mul-result : tie.Need-overflow-mul-result
-mul-result c = search rules
-
-add-result : tie.Need-overflow-add-result
-add-result c = search rules
-
-returns-2 : tie.Need-returns-2
-returns-2 c =
-    let a = c.before.before.before.before.args in
-    sym (value-is a.m.now a.j (omega arith) ∙ rw (← c.before.byte_at.ensures, ← c.byte-at2.ensures))
-
-pub value-at-spec : {M : Type 1} → statement M
-value-at-spec =
-    tie.close
-    (tie.spec
-    mul-if1
-    add-if1
-    returns
-    mul-byte-at
-    add-byte-at
-    byte-at-requires
-    cast-result
-    mul-byte-at-2
-    add-byte-at-2
-    byte-at-requires-2
-    cast-result-2
-    mul-result
-    add-result
-    returns-2)
+pub returns : goal.returns
+returns c =
+    let a = c.args in
+    sym (value-is a.m.now a.j (omega arith) ∙ rw (← c.byte_at.ensures, ← c.byte_at-2.ensures))

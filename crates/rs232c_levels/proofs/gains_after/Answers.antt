@@ -12,8 +12,7 @@ use Rattle.rs232c_levels.specs.Places.{said}
 use Rattle.rs232c_levels.proofs.Decode.{decode_at, puts_length, puts_at, three_are}
 use native.Mathlib.Nat.{div-one, mod-one}
 use lib.Count.{ones, ones_in}
-use Rattle.rs232c_levels.proofs.gains_after.Statement.{statement}
-use Rattle.rs232c_levels.proofs.gains_after.Tie as tie
+use Rattle.rs232c_levels.proofs.gains_after.Goals as goal
 
 gain-at : (mask : ℕ) (vs g : List ℕ) (k : ℕ) → k < 3 → length g ≡ 3 → get_or (puts gain_of (take 3 (decode 6 mask vs)) g) k 0 ≡ put gain_of (said (mask / 2 ^ k) (get_or vs (ones (mask % 2 ^ k)) 0)) (get_or g k 0)
 gain-at mask vs g k h l =
@@ -24,52 +23,14 @@ first-gain : (mask : ℕ) (vs g : List ℕ) → length g ≡ 3 → get_or (puts 
 unfolding ones ones_in
 first-gain mask vs g l = gain-at mask vs g 0 (omega arith) l ∙ rw (div-one mask, mod-one mask)
 
-array-read-gain-after : tie.Need-array-read-gain-after
-array-read-gain-after c = search rules
-
-gain-after-requires : tie.Need-gain-after-requires
-gain-after-requires c κs = search rules
-
-ones-of-requires : tie.Need-ones-of-requires
-ones-of-requires c κs = search rules
-
-array-read-gain-after-2 : tie.Need-array-read-gain-after-2
-array-read-gain-after-2 c = search rules
-
-gain-after-requires-2 : tie.Need-gain-after-requires-2
-gain-after-requires-2 c κs = search rules
-
-ones-of-requires-2 : tie.Need-ones-of-requires-2
-ones-of-requires-2 c κs = search rules
-
-array-read-gain-after-3 : tie.Need-array-read-gain-after-3
-array-read-gain-after-3 c = search rules
-
-gain-after-requires-3 : tie.Need-gain-after-requires-3
-gain-after-requires-3 c κs = search rules
-
-returns : tie.Need-returns
+pub returns : goal.returns
 returns c =
-    let st = c.before.before.before.before.before.before in
+    let st = c in
     let mask = st.args.mask in
     let vs = values_of st.args.m.now in
-    let g = st.args.t3 in
+    let g = st.args.g in
     let l : length g ≡ 3 = search rules in
-    let p = first-gain mask vs g l ∙ sym c.before.before.before.before.gain-after.ensures in
-    let q = gain-at mask vs g 1 (omega arith) l ∙ sym (c.before.before.gain-after2.ensures ∙ rw c.before.before.before.ones-of.ensures.0) in
-    let r = gain-at mask vs g 2 (omega arith) l ∙ sym (c.gain-after3.ensures ∙ rw c.before.ones-of2.ensures.0) in
+    let p = first-gain mask vs g l ∙ sym c.gain_after-red.ensures in
+    let q = gain-at mask vs g 1 (omega arith) l ∙ sym (c.gain_after-green.ensures ∙ rw c.ones_of.ensures.0) in
+    let r = gain-at mask vs g 2 (omega arith) l ∙ sym (c.gain_after-blue.ensures ∙ rw c.ones_of-2.ensures.0) in
     three_are (puts gain_of (take 3 (decode 6 mask vs)) g) 0 _ _ _ (puts_length gain_of (take 3 (decode 6 mask vs)) g ∙ l) p q r
-
-pub gains-after-spec : {M : Type 1} → statement M
-gains-after-spec =
-    tie.close
-    (tie.spec
-    array-read-gain-after
-    gain-after-requires
-    ones-of-requires
-    array-read-gain-after-2
-    gain-after-requires-2
-    ones-of-requires-2
-    array-read-gain-after-3
-    gain-after-requires-3
-    returns)
