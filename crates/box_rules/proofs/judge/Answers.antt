@@ -27,7 +27,9 @@ good b ids e v = rw e (sym (rw v))
 pairs : (b : DisplayBox) (good : Bool) (ids : List Ids) (ring : List ℕ) (r : Bool) → Sees b.panels b.count good ids ring → good ≡ true → r ≡ all_apart ring → r ≡ distinct (in_use b)
 pairs b good ids ring r s g e =
     let of = s.1 g in
-    e ∙ ring_distinct ids ring of.1.1 of.1.0 (λ k. subst (λ (is : List Ids). Named (get_or is k no_ids)) (sym of.0) (named (in_use b) (8 - b.count) k (sym s.0 ∙ g)))
+    let called : (k : ℕ) → Named (get_or ids k no_ids) =
+    λ k. subst (λ (is : List Ids). Named (get_or is k no_ids)) (sym of.0) (named (in_use b) (8 - b.count) k (sym s.0 ∙ g)) in
+    e ∙ ring_distinct ids ring of.1.1 of.1.0 called
     ∙ ap (λ (is : List Ids). distinct (map bare is)) of.0 ∙ distinct_gathered (in_use b) (8 - b.count)
 
 pub returns-then-n-lt1 : goal.returns-then-n-lt1
@@ -41,11 +43,12 @@ returns-then-n-gt8 c = bad _ _ c.broken-then-n-gt8.ensures (rw (le-leb _ _ c.if-
 pub returns-then-not-seen : goal.returns-then-not-seen
 unfolding valid
 returns-then-not-seen c =
+    let seen = c.look_through-seen in
     bad
     _
     _
     c.broken-then-not-seen.ensures
-    (rw (le-leb _ _ c.if-n-lt1.false, le-leb _ _ c.if-n-gt8.false, ← c.look_through-seen.ensures.0, not-true c.look_through-seen.result.good c.if-not-seen.true))
+    (rw (le-leb _ _ c.if-n-lt1.false, le-leb _ _ c.if-n-gt8.false, ← seen.ensures.0, not-true seen.result.good c.if-not-seen.true))
 
 pub returns-then-not-all_apart : goal.returns-then-not-all_apart
 unfolding valid
@@ -54,7 +57,11 @@ returns-then-not-all_apart c =
     let b = c.args.b in
     let g = not-false seen.good c.if-not-seen.false in
     let q = pairs b seen.good seen.ids seen.ring c.all_apart.result c.look_through-seen.ensures g c.all_apart.ensures in
-    bad b _ c.broken-then-not-all_apart.ensures (rw (le-leb _ _ c.if-n-lt1.false, le-leb _ _ c.if-n-gt8.false, ← c.look_through-seen.ensures.0, g) (sym q ∙ c.if-not-all_apart.true))
+    bad
+    b
+    _
+    c.broken-then-not-all_apart.ensures
+    (rw (le-leb _ _ c.if-n-lt1.false, le-leb _ _ c.if-n-gt8.false, ← c.look_through-seen.ensures.0, g) (sym q ∙ c.if-not-all_apart.true))
 
 pub returns : goal.returns
 unfolding valid
@@ -63,4 +70,8 @@ returns c =
     let b = c.args.b in
     let g = not-false seen.good c.if-not-seen.false in
     let q = pairs b seen.good seen.ids seen.ring c.all_apart.result c.look_through-seen.ensures g c.all_apart.ensures in
-    good b _ (c.look_through-seen.ensures.1 g).0 (rw (le-leb _ _ c.if-n-lt1.false, le-leb _ _ c.if-n-gt8.false, ← c.look_through-seen.ensures.0, g) (sym q ∙ c.if-not-all_apart.false))
+    good
+    b
+    _
+    (c.look_through-seen.ensures.1 g).0
+    (rw (le-leb _ _ c.if-n-lt1.false, le-leb _ _ c.if-n-gt8.false, ← c.look_through-seen.ensures.0, g) (sym q ∙ c.if-not-all_apart.false))

@@ -16,5 +16,10 @@ loop-i-preserved c =
     let i = c.loop-i.i in
     let v = c.loop-i.invariant.1.1 in
     let h : i < length ps = omega arith in
-    let laid = rings_set c.loop-i.ids c.loop-i.ring i c.pair_at-pair.result c.called_by-d.result v.1.1.1.1 v.1.0 v.1.1.0 (omega arith) c.pair_at-pair.ensures in
-    (omega arith, (c.loop-i.invariant.1.0, (v.0, (simp length-set v.1.0, (simp length-set v.1.1.0, (rw (v.1.1.1.0, c.called_by-d.ensures) (gather ps i (omega arith) h), laid))))))
+    let laid = rings_set c.loop-i.ids c.loop-i.ring i c.pair_at-pair.result c.called_by-d.result v.1.1.1.1 v.1.0 v.1.1.0 (omega arith) c.pair_at-pair.ensures in (
+      omega arith,
+      (
+        c.loop-i.invariant.1.0,
+        (v.0, (simp length-set v.1.0, (simp length-set v.1.1.0, (rw (v.1.1.1.0, c.called_by-d.ensures) (gather ps i (omega arith) h), laid)))),
+      ),
+    )

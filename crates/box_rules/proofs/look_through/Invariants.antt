@@ -9,7 +9,8 @@ use Rattle.box_rules.specs.Ring.{Rings}
 use Rattle.box_rules.proofs.look_through.Given as goal
 
 abbrev pub invariant-loop-i : goal.invariant-loop-i
-invariant-loop-i l = (l.i ≤ l.n) × ((l.n ≤ 8) × ((length l.ps ≡ 8) × ((length l.ids ≡ 8) × ((length l.ring ≡ 16) × ((l.ids ≡ gathered l.ps l.i) × Rings l.ids l.ring)))))
+invariant-loop-i l =
+    (l.i ≤ l.n) × ((l.n ≤ 8) × ((length l.ps ≡ 8) × ((length l.ids ≡ 8) × ((length l.ring ≡ 16) × ((l.ids ≡ gathered l.ps l.i) × Rings l.ids l.ring)))))
 
 abbrev pub decreases-loop-i : goal.decreases-loop-i
 decreases-loop-i l = l.n - l.i

@@ -30,4 +30,5 @@ returns-else-g-gt4095-3 c =
       | then-g-gt4095-2 w ↦ w.ok-is ∙ sym (rw (lt-leb _ _ w.if-g-gt4095-2.true) (and-false one.ok))
       | else-g-gt4095-2 w ↦ w.ok-is ∙ sym (rw (le-leb _ _ w.if-g-gt4095-2.false) (and-true one.ok))
     ] in
-    f ∙ ap (λ (b : Bool). b && ok_gain (get_or g 1 0)) e ∙ sym (every_three ok_gain g 0 h ∙ rw (le-leb _ _ c.if-g-gt4095-3.false, and-true (ok_gain (get_or g 1 0))))
+    f ∙ ap (λ (b : Bool). b && ok_gain (get_or g 1 0)) e
+    ∙ sym (every_three ok_gain g 0 h ∙ rw (le-leb _ _ c.if-g-gt4095-3.false, and-true (ok_gain (get_or g 1 0))))

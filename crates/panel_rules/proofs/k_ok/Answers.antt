@@ -18,12 +18,18 @@ returns-then-k-gt1-3 c = sym (rw (le-leb _ _ c.if-k-gt1.false, le-leb _ _ c.if-k
 
 pub returns-then-k-gt-MOST_VOLUME : goal.returns-then-k-gt-MOST_VOLUME
 unfolding ok_k
-returns-then-k-gt-MOST_VOLUME c = sym (rw (le-leb _ _ c.if-k-gt1.false, le-leb _ _ c.if-k-gt1-2.false, le-leb _ _ c.if-k-gt1-3.false, lt-leb _ _ c.if-k-gt-MOST_VOLUME.true))
+returns-then-k-gt-MOST_VOLUME c =
+    sym (rw (le-leb _ _ c.if-k-gt1.false, le-leb _ _ c.if-k-gt1-2.false, le-leb _ _ c.if-k-gt1-3.false, lt-leb _ _ c.if-k-gt-MOST_VOLUME.true))
 
 pub returns-then-k-gt2 : goal.returns-then-k-gt2
 unfolding ok_k
-returns-then-k-gt2 c = sym (rw (le-leb _ _ c.if-k-gt1.false, le-leb _ _ c.if-k-gt1-2.false, le-leb _ _ c.if-k-gt1-3.false, le-leb _ _ c.if-k-gt-MOST_VOLUME.false, lt-leb _ _ c.if-k-gt2.true))
+returns-then-k-gt2 c =
+    let v = le-leb _ _ c.if-k-gt-MOST_VOLUME.false in
+    sym (rw (le-leb _ _ c.if-k-gt1.false, le-leb _ _ c.if-k-gt1-2.false, le-leb _ _ c.if-k-gt1-3.false, v, lt-leb _ _ c.if-k-gt2.true))
 
 pub returns : goal.returns
 unfolding ok_k
-returns c = sym (rw (le-leb _ _ c.if-k-gt1.false, le-leb _ _ c.if-k-gt1-2.false, le-leb _ _ c.if-k-gt1-3.false, le-leb _ _ c.if-k-gt-MOST_VOLUME.false, le-leb _ _ c.if-k-gt2.false) (sym c.input_ok.ensures))
+returns c =
+    let v = le-leb _ _ c.if-k-gt-MOST_VOLUME.false in
+    let s = le-leb _ _ c.if-k-gt2.false in
+    sym (rw (le-leb _ _ c.if-k-gt1.false, le-leb _ _ c.if-k-gt1-2.false, le-leb _ _ c.if-k-gt1-3.false, v, s) (sym c.input_ok.ensures))

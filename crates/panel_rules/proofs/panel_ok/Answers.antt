@@ -22,4 +22,5 @@ returns-then-not-ids_zero c = sym (rw (ne_eqb _ _ c.if-p-eq-FAMILY_W.false, eq-e
 
 pub returns : goal.returns
 unfolding ok_panel ok_family
-returns c = sym (rw (ne_eqb _ _ c.if-p-eq-FAMILY_W.false, eq-eqb _ _ c.if-p-ne-FAMILY_K.false, ← c.ids_zero.ensures, c.if-not-ids_zero.false) (sym c.k_ok.ensures))
+returns c =
+    sym (rw (ne_eqb _ _ c.if-p-eq-FAMILY_W.false, eq-eqb _ _ c.if-p-ne-FAMILY_K.false, ← c.ids_zero.ensures, c.if-not-ids_zero.false) (sym c.k_ok.ensures))
