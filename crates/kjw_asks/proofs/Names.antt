@@ -12,11 +12,13 @@ use Rattle.kjw_sets.specs.declared.State.{State}
 use Rattle.kjw_sets.specs.declared.State.TheVariants.{Power, AudioMute, PictureMute, Volume, Input, Scene}
 use Rattle.kjw_asks.specs.declared.Named.TheVariants.{Is, Nothing}
 
-pub named_yes : (ss : List State) (l : List ℕ) (i : ℕ) (d : State) → i < length ss → same l (state_letters (get_or ss i d)) ≡ true → named_in (drop i ss) l ≡ Is (get_or ss i d)
+pub named_yes : (ss : List State) (l : List ℕ) (i : ℕ) (d : State) → i < length ss → same l (state_letters (get_or ss i d)) ≡ true
+    → named_in (drop i ss) l ≡ Is (get_or ss i d)
 unfolding named_in
 named_yes ss l i d h e = rw (from ss i d h, named_in, e)
 
-pub named_no : (ss : List State) (l : List ℕ) (i : ℕ) (d : State) → i < length ss → same l (state_letters (get_or ss i d)) ≡ false → named_in (drop i ss) l ≡ named_in (drop (i + 1) ss) l
+pub named_no : (ss : List State) (l : List ℕ) (i : ℕ) (d : State) → i < length ss → same l (state_letters (get_or ss i d)) ≡ false
+    → named_in (drop i ss) l ≡ named_in (drop (i + 1) ss) l
 unfolding named_in
 named_no ss l i d h e = rw (from ss i d h, named_in, e)
 
