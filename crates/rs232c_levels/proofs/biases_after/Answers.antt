@@ -43,7 +43,7 @@ returns c =
     let e : c.bias_after-red.result ≡ put bias_of (said (mask / 8) (get_or vs (ones (mask % 8)) 0)) (to_z w16 (of_z w16 (get_or z 0 (pos 0)))) = c.bias_after-red.ensures ∙ rw c.ones_of.ensures.0 in
     let f : c.bias_after-green.result ≡ put bias_of (said (mask / 16) (get_or vs (ones (mask % 16)) 0)) (to_z w16 (of_z w16 (get_or z 1 (pos 0)))) = c.bias_after-green.ensures ∙ rw c.ones_of-2.ensures.0 in
     let g : c.bias_after-blue.result ≡ put bias_of (said (mask / 32) (get_or vs (ones (mask % 32)) 0)) (to_z w16 (of_z w16 (get_or z 2 (pos 0)))) = c.bias_after-blue.ensures ∙ rw c.ones_of-3.ensures.0 in
-    let p = bias-at mask vs z 0 (omega arith) l ∙ sym (settled (said (mask / 8) (get_or vs (ones (mask % 8)) 0)) (get_or z 0 (pos 0)) _ (record { sfits = c.bias_after-arg-1.given }) e) in
-    let q = bias-at mask vs z 1 (omega arith) l ∙ sym (settled (said (mask / 16) (get_or vs (ones (mask % 16)) 0)) (get_or z 1 (pos 0)) _ (record { sfits = c.bias_after-arg-2-1.given }) f) in
-    let r = bias-at mask vs z 2 (omega arith) l ∙ sym (settled (said (mask / 32) (get_or vs (ones (mask % 32)) 0)) (get_or z 2 (pos 0)) _ (record { sfits = c.bias_after-arg-3-1.given }) g) in
+    let p = bias-at mask vs z 0 (omega arith) l ∙ sym (settled (said (mask / 8) (get_or vs (ones (mask % 8)) 0)) (get_or z 0 (pos 0)) _ (search rules) e) in
+    let q = bias-at mask vs z 1 (omega arith) l ∙ sym (settled (said (mask / 16) (get_or vs (ones (mask % 16)) 0)) (get_or z 1 (pos 0)) _ (search rules) f) in
+    let r = bias-at mask vs z 2 (omega arith) l ∙ sym (settled (said (mask / 32) (get_or vs (ones (mask % 32)) 0)) (get_or z 2 (pos 0)) _ (search rules) g) in
     three_are (puts bias_of (drop 3 (decode 6 mask vs)) z) (pos 0) _ _ _ (puts_length bias_of (drop 3 (decode 6 mask vs)) z ∙ l) p q r
