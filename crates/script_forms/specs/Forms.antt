@@ -1,5 +1,5 @@
 -- Forms: a text with a number in the place of each `#`.
-use Rattle.std.specs.Prelude.{ℕ, ◌+◌, cond, List, [], ◌∷◌, ◌++◌, eqb, drop, get_or}
+use Rattle.std.specs.Prelude.{ℕ, cond, List, [], ◌∷◌, ◌++◌, eqb, drop, get_or}
 use Rattle.decimals.specs.Plain.{plain}
 
 -- a form with a number in the place of each `#`, 0 where there are no more
