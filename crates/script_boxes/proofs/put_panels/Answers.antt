@@ -1,10 +1,9 @@
-use Prim.Native.Nat.{◌*◌, ◌+◌, ◌-◌, ℕ}
+use Prim.Native.Nat.{◌*◌, ◌+◌, ℕ}
 use mathlib.Core.Path.{◌∙◌, ◌≡◌, ap, sym}
 use native.Mathlib.Omega.{arith}
 use lib.ListN.{length-set}
 use lib.Seq.{paste}
 use borrow.Author.Rules.{rules}
-use Rattle.laws.specs.Bytes.{laid}
 use Rattle.script_boxes.specs.Boxes.{configuration}
 use Rattle.script_words.proofs.Areas.{front_three, front_whole}
 use Rattle.script_boxes.proofs.Configurations.{configuration_length, family_of_lem, group_of, unit_of_lem}
