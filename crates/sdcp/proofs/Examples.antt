@@ -157,4 +157,4 @@ tried = refl
 -- and a packet with a space and 00h behind its string is that packet without
 ended_one : EndedAs (packet_from own 17 (ascii "STATset VOLUME 40")) (packet_from own 19 (ascii "STATset VOLUME 40" ++ (0x20 ∷ 0x00 ∷ [])))
 unfolding envelope_of number in_bytes ends_bare
-ended_one = record { front_same = refl; long = omega arith; ended_long = omega arith; sound = refl; ended_sound = refl; ends_bare = refl; ended = terminated 1 }
+ended_one = record { front_same = refl; long = omega arith; ended_long = omega arith; sound = refl; ended_sound = refl; ends_bare_holds = refl; ended = terminated 1 }
