@@ -56,8 +56,8 @@ module _ (i : ℕ) where
   ToldIn b ms gs = gs ≡ told_all (kept i (names b) ms) (replies i b ms)
 
   -- a message that got this stands in front
-  in_front_holds : (b : DisplayBox) (m : Message) (ms : List Message) (g : CallGot) (gs : List CallGot) → g ≡ told m (got_by b m) → ToldIn (step b m).box ms gs → ToldIn b (m ∷ ms) (cond (addressed (names b) m i) (g ∷ gs) gs)
-  in_front_holds b m ms g gs e r = go (addressed (names b) m i) (rw (names_kept b m) at r)
+  in_front_lem : (b : DisplayBox) (m : Message) (ms : List Message) (g : CallGot) (gs : List CallGot) → g ≡ told m (got_by b m) → ToldIn (step b m).box ms gs → ToldIn b (m ∷ ms) (cond (addressed (names b) m i) (g ∷ gs) gs)
+  in_front_lem b m ms g gs e r = go (addressed (names b) m i) (rw (names_kept b m) at r)
     where
       b' : DisplayBox
       b' = (step b m).box
@@ -67,12 +67,12 @@ module _ (i : ℕ) where
       go false q = q
 
   got_by_entry : (b : DisplayBox) (k : Call) (ms : List Message) (ks : List Call) (e : Entry) → ((c : DisplayBox) → ToldIn c ms (gots i c ks)) → ToldIn b (and_by e k ms) (cond (is_for_by e i (names b) k) (got_through e k.area (called_by e b k.link k.message k.area) ∷ gots i (called_by e b k.link k.message k.area).box ks) (gots i (called_by e b k.link k.message k.area).box ks))
-  got_by_entry b k ms ks (Through (By Rs232c)) r = in_front_holds b (rs232c k.link k.message k.area) ms _ _ refl (r (step b (rs232c k.link k.message k.area)).box)
-  got_by_entry b k ms ks (Through (By Kjw)) r = in_front_holds b (kjw k.link k.message k.area) ms _ _ refl (r (step b (kjw k.link k.message k.area)).box)
-  got_by_entry b k ms ks (Through (By Tcp)) r = in_front_holds b (tcp k.link k.message k.area) ms _ _ refl (r (step b (tcp k.link k.message k.area)).box)
+  got_by_entry b k ms ks (Through (By Rs232c)) r = in_front_lem b (rs232c k.link k.message k.area) ms _ _ refl (r (step b (rs232c k.link k.message k.area)).box)
+  got_by_entry b k ms ks (Through (By Kjw)) r = in_front_lem b (kjw k.link k.message k.area) ms _ _ refl (r (step b (kjw k.link k.message k.area)).box)
+  got_by_entry b k ms ks (Through (By Tcp)) r = in_front_lem b (tcp k.link k.message k.area) ms _ _ refl (r (step b (tcp k.link k.message k.area)).box)
   got_by_entry b k ms ks (Through Udp) r =
       let o = step b (udp k.message) in
-      in_front_holds b (udp k.message) ms _ _ (ap (without_area (number_of o.answer) (answerPlace o.answer) o.back.len) (same_self k.area)) (r o.box)
+      in_front_lem b (udp k.message) ms _ _ (ap (without_area (number_of o.answer) (answerPlace o.answer) o.back.len) (same_self k.area)) (r o.box)
   got_by_entry b k ms ks Nowhere r = r b
 
   -- what a host's calls got is what the messages of the run got

@@ -108,9 +108,9 @@ module _ (r : Receiver) (p : List ℕ) where
   abbrev some : ℕ → Given
   some n = record { after = holding (drop (noise read + n) (held_in r)); taken = noise read + n - length (held_in r); packet = take n (sought read) }
 
-  pub by_call_holds : (P : Given → Type 0) → (whole (sought read) ≡ 0 → P none) → ((n : ℕ) → whole (sought read) ≡ suc n → P (some (suc n))) → P (given r p)
+  pub by_call_lem : (P : Given → Type 0) → (whole (sought read) ≡ 0 → P none) → ((n : ℕ) → whole (sought read) ≡ suc n → P (some (suc n))) → P (given r p)
   unfolding given handed
-  by_call_holds P f g = go (whole (sought read)) refl
+  by_call_lem P f g = go (whole (sought read)) refl
     where
       go : (w : ℕ) → whole (sought read) ≡ w → P (handed w (noise read) (held_in r) p)
       go zero e = f e
@@ -132,23 +132,23 @@ module _ (r : Receiver) (p : List ℕ) where
 
   -- no more is handed out than was there
   pub packet_le : length (given r p).packet ≤ length read
-  packet_le = by_call_holds (λ g. length g.packet ≤ length read) (λ e. omega arith)
+  packet_le = by_call_lem (λ g. length g.packet ≤ length read) (λ e. omega arith)
       (λ n e. omega (arith, some_length n e, (whole_is (sought read) n e).there, length-drop (noise read) read))
 
   -- ---- what a call takes
 
   -- "says how many it took"
   pub takes_in : (given r p).taken ≤ length p
-  takes_in = by_call_holds (λ g. g.taken ≤ length p) (λ e. le_refl (length p))
+  takes_in = by_call_lem (λ g. g.taken ≤ length p) (λ e. le_refl (length p))
       (λ n e. omega (arith, (whole_is (sought read) n e).there, length-drop (noise read) read, noise_le read, length-append (held_in r) p))
 
   -- "one that hands out nothing has taken the whole piece"
   pub none_takes_all : (given r p).packet ≡ [] → (given r p).taken ≡ length p
-  none_takes_all = by_call_holds (λ g. g.packet ≡ [] → g.taken ≡ length p) (λ e z. refl) (λ n e z. absurd (some_bytes n e z))
+  none_takes_all = by_call_lem (λ g. g.packet ≡ [] → g.taken ≡ length p) (λ e z. refl) (λ n e z. absurd (some_bytes n e z))
 
   -- every byte that was held or taken is noise, handed out or held: none is lost, and "a call takes no byte past what it hands out"
   pub accounts : held_in r ++ take (given r p).taken p ≡ take (noise read) read ++ (given r p).packet ++ held_in (given r p).after
-  accounts = by_call_holds (λ g. held_in r ++ take g.taken p ≡ take (noise read) read ++ g.packet ++ held_in g.after)
+  accounts = by_call_lem (λ g. held_in r ++ take g.taken p ≡ take (noise read) read ++ g.packet ++ held_in g.after)
       (λ e. ap (held_in r ++◌) (take-length p) ∙ sym (take-append-drop (noise read) read) ∙ ap (◌++ sought read) (sym (append-nil (take (noise read) read)))
       ∙ ap (take (noise read) read ++ [] ++◌) (sym (held_all e)))
       (λ n e. drop_behind (held_in r) p (noise read + suc n) ∙ ap (◌++ drop (noise read + suc n) (held_in r)) (take-add (noise read) (suc n) read)
@@ -156,7 +156,7 @@ module _ (r : Receiver) (p : List ℕ) where
 
   -- where a packet ends in the piece, nothing is held
   pub none_held : ((given r p).packet ≡ [] → ⊥) → 0 < (given r p).taken → (given r p).after ≡ holding []
-  none_held = by_call_holds (λ g. (g.packet ≡ [] → ⊥) → 0 < g.taken → g.after ≡ holding []) (λ e n h. absurd (n refl))
+  none_held = by_call_lem (λ g. (g.packet ≡ [] → ⊥) → 0 < g.taken → g.after ≡ holding []) (λ e n h. absurd (n refl))
       (λ n e f h. ap holding (drop_behind_all (held_in r) (noise read + suc n) h))
     where
       drop_behind_all : (l : List ℕ) (c : ℕ) → 0 < c - length l → drop c l ≡ []
@@ -167,7 +167,7 @@ module _ (r : Receiver) (p : List ℕ) where
 
   -- "and it searches on": what is held and the piece's rest are what stands behind what was handed out
   pub searches_on : held_in (given r p).after ++ drop (given r p).taken p ≡ drop (length (given r p).packet) (sought read)
-  searches_on = by_call_holds (λ g. held_in g.after ++ drop g.taken p ≡ drop (length g.packet) (sought read))
+  searches_on = by_call_lem (λ g. held_in g.after ++ drop g.taken p ≡ drop (length g.packet) (sought read))
       (λ e. ap (held_in (holding (sought read)) ++◌) (drop-length p) ∙ append-nil (held_in (holding (sought read))) ∙ held_all e)
       (λ n e. ap (◌++ drop (noise read + suc n - length (held_in r)) p) (held_on (noise read + suc n)) ∙ drop_both (held_in r) p (noise read + suc n)
       ∙ sym (drop-drop (suc n) (noise read) read) ∙ ap (λ (k : ℕ). drop k (sought read)) (sym (some_length n e)))
@@ -175,7 +175,7 @@ module _ (r : Receiver) (p : List ℕ) where
   -- ---- what is held after a call
 
   pub after_holds : (given r p).after ≡ holding (held_in (given r p).after)
-  after_holds = by_call_holds (λ g. g.after ≡ holding (held_in g.after)) (λ e. ap holding (sym (held_all e))) (λ n e. ap holding (sym (held_on (noise read + suc n))))
+  after_holds = by_call_lem (λ g. g.after ≡ holding (held_in g.after)) (λ e. ap holding (sym (held_all e))) (λ n e. ap holding (sym (held_on (noise read + suc n))))
 
   -- "It holds at most 512 bytes", "after each call its store is 0 behind the bytes held"
   pub zeros_behind : ((given r p).after.held ≤ 512) × (length (given r p).after.store ≡ 512) × (drop (given r p).after.held (given r p).after.store ≡ replicate (512 - (given r p).after.held) 0)
@@ -184,11 +184,11 @@ module _ (r : Receiver) (p : List ℕ) where
   -- a call that hands out nothing holds less than 512, so the next byte can always be held
   pub room_left : (given r p).packet ≡ [] → (given r p).after.held < 512
   unfolding holding
-  room_left = by_call_holds (λ g. g.packet ≡ [] → g.after.held < 512) (λ e z. whole_not (sought read) e) (λ n e z. absurd (some_bytes n e z))
+  room_left = by_call_lem (λ g. g.packet ≡ [] → g.after.held < 512) (λ e z. whole_not (sought read) e) (λ n e z. absurd (some_bytes n e z))
 
   -- "with 13 bytes it knows the length": with so many it holds on only while the packet's end is not there
   pub knows_length : (given r p).packet ≡ [] → 13 ≤ length (held_in (given r p).after) → (data_length_of (held_in (given r p).after) ≤ 499) × (length (held_in (given r p).after) < 13 + data_length_of (held_in (given r p).after))
-  knows_length = by_call_holds (λ g. g.packet ≡ [] → 13 ≤ length (held_in g.after) → (data_length_of (held_in g.after) ≤ 499) × (length (held_in g.after) < 13 + data_length_of (held_in g.after)))
+  knows_length = by_call_lem (λ g. g.packet ≡ [] → 13 ≤ length (held_in g.after) → (data_length_of (held_in g.after) ≤ 499) × (length (held_in g.after) < 13 + data_length_of (held_in g.after)))
       (λ e z. rw (held_all e) (whole_waits (sought read) e)) (λ n e z. absurd (some_bytes n e z))
 
   -- ---- what is dropped, and what is handed out
@@ -197,12 +197,12 @@ module _ (r : Receiver) (p : List ℕ) where
   pub drops_noise : (i : ℕ) → i < noise read → can_begin (drop i read) ≡ false
   drops_noise = noise_dropped read
 
-  pub can_begin_holds : (given r p).packet ≡ [] → can_begin (held_in (given r p).after) ≡ true
-  can_begin_holds = by_call_holds (λ g. g.packet ≡ [] → can_begin (held_in g.after) ≡ true) (λ e z. ap can_begin (held_all e) ∙ sought_begins read) (λ n e z. absurd (some_bytes n e z))
+  pub can_begin_lem : (given r p).packet ≡ [] → can_begin (held_in (given r p).after) ≡ true
+  can_begin_lem = by_call_lem (λ g. g.packet ≡ [] → can_begin (held_in g.after) ≡ true) (λ e z. ap can_begin (held_all e) ∙ sought_begins read) (λ n e z. absurd (some_bytes n e z))
 
   -- "gives whole packets", "With a length over 499 just those 13 bytes are handed out as a message [..]. Other packets are handed out whole"
   pub whole_packet : ((given r p).packet ≡ [] → ⊥)
       → (is_ours (given r p).packet ≡ true) × (13 ≤ length (given r p).packet)
       × (data_length_of (given r p).packet ≤ 499 → length (given r p).packet ≡ 13 + data_length_of (given r p).packet)
       × (499 < data_length_of (given r p).packet → length (given r p).packet ≡ 13)
-  whole_packet = by_call_holds (λ g. (g.packet ≡ [] → ⊥) → IsWhole g.packet) (λ e n. absurd (n refl)) (λ n e f. packet_whole (sought read) n (sought_begins read) (whole_is (sought read) n e))
+  whole_packet = by_call_lem (λ g. (g.packet ≡ [] → ⊥) → IsWhole g.packet) (λ e n. absurd (n refl)) (λ n e f. packet_whole (sought read) n (sought_begins read) (whole_is (sought read) n e))

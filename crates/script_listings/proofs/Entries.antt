@@ -13,9 +13,9 @@ module _ (n : ℕ) (ss ls : List ℕ) where
   abbrev pub entries_from : ℕ → List ℕ
   entries_from i = entries_text (drop i (take n ss)) (drop i (take n ls))
 
-  pub entries_from_holds : (i : ℕ) → i < n → n ≤ length ss → n ≤ length ls → entries_from i ≡ entry_text (get_or ss i 0) (get_or ls i 0) ++ entries_from (i + 1)
+  pub entries_from_lem : (i : ℕ) → i < n → n ≤ length ss → n ≤ length ls → entries_from i ≡ entry_text (get_or ss i 0) (get_or ls i 0) ++ entries_from (i + 1)
   unfolding entries_text
-  entries_from_holds i h k j =
+  entries_from_lem i h k j =
       rw (from (take n ss) i 0 (simp length-take (omega arith)), from (take n ls) i 0 (simp length-take (omega arith)), get_or-take n ss i 0 h, get_or-take n ls i 0 h)
 
   pub entries_behind : (i : ℕ) → n ≤ i → entries_from i ≡ []

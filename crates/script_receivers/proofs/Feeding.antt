@@ -66,8 +66,8 @@ module _ {link : ℕ} {area piece e e' : List ℕ} {f g : Between} (going : f.en
   ends : (called_by f piece).packet ≡ [] → g.ended ≡ true
   ends q = c.ended_is ∙ ap (λ (l : List ℕ). eqb (length l) 0) q
 
-  goes_on_holds : {x : ℕ} {packet : List ℕ} → (called_by f piece).packet ≡ x ∷ packet → g.ended ≡ false
-  goes_on_holds q = c.ended_is ∙ ne_eqb (length (called_by f piece).packet) 0 (λ z. omega (arith, z, ap length q))
+  goes_on_lem : {x : ℕ} {packet : List ℕ} → (called_by f piece).packet ≡ x ∷ packet → g.ended ≡ false
+  goes_on_lem q = c.ended_is ∙ ne_eqb (length (called_by f piece).packet) 0 (λ z. omega (arith, z, ap length q))
 
   behind : drop (called_by f piece).taken (drop f.taken piece) ≡ drop g.taken piece
   behind = drop-drop (called_by f piece).taken f.taken piece ∙ ap (λ (n : ℕ). drop n piece) (sym c.taken_is)
@@ -79,7 +79,7 @@ module _ {link : ℕ} {area piece e e' : List ℕ} {f g : Between} (going : f.en
       go : (packet : List ℕ) → (called_by f piece).packet ≡ packet → left_of f piece ≡ first packet (left_of g piece)
       go [] q = rw (going, ends q, c.receiver_is) (fed_last f.receiver (drop f.taken piece) q)
       go (x ∷ packet) q =
-          rw (going, goes_on_holds q, c.receiver_is, ← behind, ← q) (fed_more f.receiver (drop f.taken piece) (λ z. omega (arith, ap length z, ap length q)))
+          rw (going, goes_on_lem q, c.receiver_is, ← behind, ← q) (fed_more f.receiver (drop f.taken piece) (λ z. omega (arith, ap length z, ap length q)))
 
   pub read_less : to_read piece g < to_read piece f
   unfolding to_read
@@ -87,7 +87,7 @@ module _ {link : ℕ} {area piece e e' : List ℕ} {f g : Between} (going : f.en
     where
       go : (packet : List ℕ) → (called_by f piece).packet ≡ packet → to_read piece g < to_read piece f
       go [] q = rw (going, ends q) (omega arith)
-      go (x ∷ packet) q = rw (going, goes_on_holds q, c.receiver_is, ← behind) (omega (arith, leaves f.receiver (drop f.taken piece), packet_le f.receiver (drop f.taken piece), ap length q))
+      go (x ∷ packet) q = rw (going, goes_on_lem q, c.receiver_is, ← behind) (omega (arith, leaves f.receiver (drop f.taken piece), packet_le f.receiver (drop f.taken piece), ap length q))
 
 -- ---- all calls
 

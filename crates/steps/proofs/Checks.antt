@@ -65,9 +65,9 @@ k_panel p = go (eqb p.family family_w) refl
 
 module _ (f : Name → Bool) (family : ℕ) (none : f nobody ≡ false) (named : (p : Panel) → f (name_of p) ≡ eqb p.family family) (b : DisplayBox) where
   -- whoever knows a panel's family by its name knows it on every link
-  has_panel_holds : (l : ℕ) → f (on_link (names b) l) ≡ has_panel b l family
-  has_panel_holds zero = none
-  has_panel_holds (suc i) = judge (valid b) refl
+  has_panel_lem : (l : ℕ) → f (on_link (names b) l) ≡ has_panel b l family
+  has_panel_lem zero = none
+  has_panel_lem (suc i) = judge (valid b) refl
     where
       place : (t : Bool) → ltb i b.count ≡ t → valid b ≡ true → f (get_or (names b) i nobody) ≡ (t && eqb (panel_at i b).family family)
       place true t v = ap f (in_use_name b i v (ltb-true i b.count t)) ∙ named (panel_at i b)
@@ -78,10 +78,10 @@ module _ (f : Name → Bool) (family : ℕ) (none : f nobody ≡ false) (named :
       judge false v = ap (λ (ns : List Name). f (get_or ns i nobody)) (bad_names b v) ∙ none
 
 w_has : (b : DisplayBox) (l : ℕ) → is_w (on_link (names b) l) ≡ has_panel b l family_w
-w_has = has_panel_holds is_w family_w refl w_panel
+w_has = has_panel_lem is_w family_w refl w_panel
 
 k_has : (b : DisplayBox) (l : ℕ) → is_k (on_link (names b) l) ≡ has_panel b l family_k
-k_has = has_panel_holds is_k family_k refl k_panel
+k_has = has_panel_lem is_k family_k refl k_panel
 
 -- ---- with a link
 

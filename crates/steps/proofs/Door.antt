@@ -26,13 +26,13 @@ use Rattle.steps.proofs.Finding.{found}
 pub data Lends (l : ℕ) (area : List ℕ) : Message → Type 0 where
   by_rs232c : (m : List ℕ) → Lends l area (rs232c l m area)
   by_kjw : (m : List ℕ) → Lends l area (kjw l m area)
-  by_tcp_holds : (m : List ℕ) → Lends l area (tcp l m area)
+  by_tcp_lem : (m : List ℕ) → Lends l area (tcp l m area)
 
 -- "All but UDP come with a lent reply area."
 pub by_way : (P : Message → Type 0) → ((l : ℕ) (area : List ℕ) (m : Message) → Lends l area m → P m) → ((m : List ℕ) → P (udp m)) → (m : Message) → P m
 by_way P with-link by_udp (rs232c l m area) = with-link l area (rs232c l m area) (by_rs232c m)
 by_way P with-link by_udp (kjw l m area) = with-link l area (kjw l m area) (by_kjw m)
-by_way P with-link by_udp (tcp l m area) = with-link l area (tcp l m area) (by_tcp_holds m)
+by_way P with-link by_udp (tcp l m area) = with-link l area (tcp l m area) (by_tcp_lem m)
 by_way P with-link by_udp (udp m) = by_udp m
 
 -- checks 1, 2 and 4 are passed
@@ -90,7 +90,7 @@ pub lent_door : {l : ℕ} {area : List ℕ} {m : Message} (ns : List Name) → L
 unfolding door
 lent_door ns (by_rs232c m) = (Done, refl)
 lent_door ns (by_kjw m) = (Done, refl)
-lent_door {l} {area} ns (by_tcp_holds m) = (cond (eqb (target ns (tcp l m area)) 0) (to_nobody m) Done, refl)
+lent_door {l} {area} ns (by_tcp_lem m) = (cond (eqb (target ns (tcp l m area)) 0) (to_nobody m) Done, refl)
 
 -- 1: "reply area under 512 bytes"; 2: "no panel with that link number, or it is of the other family": past them, neither applies
 pub record Lent (area : List ℕ) (fits : Bool) : Type 0 where
@@ -148,5 +148,5 @@ pub its_family : (ns : List Name) (m : Message) (i : ℕ) → door ns m ≡ Done
 unfolding addressed target
 its_family ns (rs232c l m area) i d a = link_is is_w ns l i a (door_passed ns (by_rs232c m) d).link_fits
 its_family ns (kjw l m area) i d a = link_is is_k ns l i a (door_passed ns (by_kjw m) d).link_fits
-its_family ns (tcp l m area) i d a = tcp_w ns l m i (door_passed ns (by_tcp_holds m) d).link_fits a
+its_family ns (tcp l m area) i d a = tcp_w ns l m i (door_passed ns (by_tcp_lem m) d).link_fits a
 its_family ns (udp m) i d a = called_w m (get_or ns i nobody) a

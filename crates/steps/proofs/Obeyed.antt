@@ -36,7 +36,7 @@ use Rattle.rs232c.proofs.AskedBack as serialBack
 use Rattle.steps.specs.Messages.{Message, rs232c, kjw, tcp, udp, names}
 use Rattle.steps.specs.Addressing.{addressed}
 use Rattle.steps.specs.Step.{with_w, with_k, turn, panel_at, step}
-use Rattle.steps.proofs.Door.{by_rs232c, by_kjw, by_tcp_holds as on_link}
+use Rattle.steps.proofs.Door.{by_rs232c, by_kjw, by_tcp_lem as on_link}
 use Rattle.steps.proofs.Turns.{Reaches, has_room, done_reaches, takes}
 use Rattle.steps.proofs.Only.{only_0}
 
@@ -65,7 +65,7 @@ serial_obeyed b i l s m area o e r =
 
 -- a message that brings a packet: by TCP or by UDP
 pub data Brings (p : List ℕ) : Message → Type 0 where
-  by_tcp_holds : (l : ℕ) (area : List ℕ) → Brings p (tcp l p area)
+  by_tcp_lem : (l : ℕ) (area : List ℕ) → Brings p (tcp l p area)
   by_udp : Brings p (udp p)
 
 -- what a panel does with an order that it understood, where there is room for the reply
@@ -75,7 +75,7 @@ told_order room p o w h e = rw (le-ltb room 512 h, e)
 
 pub obeyed : {b : DisplayBox} {m : Message} {i : ℕ} (p : List ℕ) (o : wordOrder.Order) → Brings p m → packetAsks.heard_of p ≡ packetIs.Understood o → Reaches b m i → panel_at i (step b m).box ≡ with_w (panel_at i b) (words.carried o (panel_at i b).w)
 unfolding turn packets.turned
-obeyed {b} {m} {i} p o (by_tcp_holds l area) e r =
+obeyed {b} {m} {i} p o (by_tcp_lem l area) e r =
     takes r
     ∙ ap (λ (t : Turn WRecord). with_w (panel_at i b) t.after) (told_order (length area) p o (panel_at i b).w (has_room (on_link p) r) e)
 obeyed {b} {m} {i} p o by_udp e r =
@@ -102,7 +102,7 @@ accepted_stands b (kjw l m area) i d a =
     (t.0, t.1, frame_obeyed b i l m area t.0 t.1 (done_reaches b (kjw l m area) i d a))
 accepted_stands b (tcp l m area) i d a =
     let t = (only_0 b (tcp l m area) (ap number_of d)).5 in
-    (t.0, t.1, obeyed m t.0 (by_tcp_holds l area) t.1 (done_reaches b (tcp l m area) i d a))
+    (t.0, t.1, obeyed m t.0 (by_tcp_lem l area) t.1 (done_reaches b (tcp l m area) i d a))
 accepted_stands b (udp m) i d a =
     let t = (only_0 b (udp m) (ap number_of d)).5 in
     let h = cast_heard m t.0 t.1 in

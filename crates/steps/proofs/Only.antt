@@ -67,7 +67,7 @@ pub data NoPanel (b : DisplayBox) : Message → Type 0 where
 
 -- neither 1 nor 2: room for a reply, and a panel of the way's family on the link of a box that keeps the rules; "UDP skips 1 and 2."
 pub data LetIn (b : DisplayBox) : Message → Type 0 where
-  on_link_holds : {i : ℕ} {area : List ℕ} {m : Message} → Lends (suc i) area m → 512 ≤ length area → valid b ≡ true → i < b.count → (panel_at i b).family ≡ family_of m → LetIn b m
+  on_link_lem : {i : ℕ} {area : List ℕ} {m : Message} → Lends (suc i) area m → 512 ≤ length area → valid b ≡ true → i < b.count → (panel_at i b).family ≡ family_of m → LetIn b m
   skipped : {m : List ℕ} → LetIn b (udp m)
 
 -- 3: "too short to be a message, or wrong fixed length"
@@ -80,7 +80,7 @@ BadLength (udp m) = length m < 13
 -- 4: "not for us", by SDCP "Wrong version, category or community, or no panel addressed"
 pub data NotOurs (b : DisplayBox) (x : Message) (m : List ℕ) : Type 0 where
   wrong_front : packetAsks.is_ours m ≡ false → NotOurs b x m
-  to_nobody_holds : ((i : ℕ) → addressed (names b) x i ≡ false) → NotOurs b x m
+  to_nobody_lem : ((i : ℕ) → addressed (names b) x i ≡ false) → NotOurs b x m
 
 abbrev pub Foreign : DisplayBox → Message → Type 0
 Foreign b (rs232c l m area) = serialAsks.is_foreign m ≡ true
@@ -224,7 +224,7 @@ module _ (b : DisplayBox) where
       go : (v c f : Bool) → valid b ≡ v → ltb i b.count ≡ c → eqb (panel_at i b).family (family_of m) ≡ f → (v && c && f) ≡ true → LetIn b m
       go false c f v c' f' n = absurd (false_true n)
       go true false f v c' f' n = absurd (false_true n)
-      go true true f v c' f' n = on_link_holds k (ltb-false (length area) 512 a) v (ltb-true i b.count c') (eqb-true (panel_at i b).family (family_of m) (f' ∙ n))
+      go true true f v c' f' n = on_link_lem k (ltb-false (length area) 512 a) v (ltb-true i b.count c') (eqb-true (panel_at i b).family (family_of m) (f' ∙ n))
 
   let_in : (m : Message) → at m 0 ≡ false → at m 1 ≡ false → LetIn b m
   let_in (rs232c l m area) a e = there l (by_rs232c m) a e
@@ -257,12 +257,12 @@ module _ (b : DisplayBox) where
   not_ours x m none f = go (packetAsks.is_ours m) refl
     where
       go : (o : Bool) → packetAsks.is_ours m ≡ o → (not o || none) ≡ true → NotOurs b x m
-      go true o e = to_nobody_holds (f e)
+      go true o e = to_nobody_lem (f e)
       go false o e = wrong_front o
 
   ours : {x : Message} {m : List ℕ} (none : Bool) → (((i : ℕ) → addressed (names b) x i ≡ false) → none ≡ true) → (not (packetAsks.is_ours m) || none) ≡ false → NotOurs b x m → ⊥
   ours {x} {m} none f e (wrong_front o) = false_true (sym (neither (not (packetAsks.is_ours m)) none e).0 ∙ ap not o)
-  ours {x} {m} none f e (to_nobody_holds n) = false_true (sym (neither (not (packetAsks.is_ours m)) none e).1 ∙ f n)
+  ours {x} {m} none f e (to_nobody_lem n) = false_true (sym (neither (not (packetAsks.is_ours m)) none e).1 ∙ f n)
 
   foreign : (m : Message) → at m 3 ≡ true → Foreign b m
   unfolding addressed
@@ -314,15 +314,15 @@ module _ (b : DisplayBox) where
   unclear (tcp l m area) a e = packet_unclear_lem m e
   unclear (udp m) a e = cast_plain m a ∙ packet_unclear_lem m e
 
-  is_ours_holds : (m : List ℕ) (none : Bool) → (not (packetAsks.is_ours m) || none) ≡ false → packetAsks.is_ours m ≡ true
-  is_ours_holds m none e = not-false (packetAsks.is_ours m) (neither (not (packetAsks.is_ours m)) none e).0
+  is_ours_lem : (m : List ℕ) (none : Bool) → (not (packetAsks.is_ours m) || none) ≡ false → packetAsks.is_ours m ≡ true
+  is_ours_lem m none e = not-false (packetAsks.is_ours m) (neither (not (packetAsks.is_ours m)) none e).0
 
   clear : (m : Message) → ((j : ℕ) → at m j ≡ false) → Clear m
   clear (rs232c l m area) n = serial_clear m (n 2) (n 3) (serial_good l m area (λ j h. n j)) (n 11)
   clear (kjw l m area) n = frame_clear m (not-false (eqb (length m) 24) (n 2)) (not-false (frameAsks.is_ours m) (n 3)) (n 11)
-  clear (tcp l m area) n = packet_clear m (n 2) (is_ours_holds m (eqb (target (names b) (tcp l m area)) 0) (n 3)) (packet_good (tcp l m area) m refl refl refl refl (λ j h. n j)) (n 11)
+  clear (tcp l m area) n = packet_clear m (n 2) (is_ours_lem m (eqb (target (names b) (tcp l m area)) 0) (n 3)) (packet_good (tcp l m area) m refl refl refl refl (λ j h. n j)) (n 11)
   clear (udp m) n =
-      let t = packet_clear m (n 2) (is_ours_holds m (not (any_called m (names b))) (n 3)) (packet_good (udp m) m refl refl refl refl (λ j h. n j)) (n 11) in
+      let t = packet_clear m (n 2) (is_ours_lem m (not (any_called m (names b))) (n 3)) (packet_good (udp m) m refl refl refl refl (λ j h. n j)) (n 11) in
       (t.0, cast_plain m (n 10) ∙ t.1)
 
   fired : (m : Message) (k : ℕ) → k < length checks → number_of (step b m).answer ≡ get_or checks k 0 → Fires (conditions b m) k

@@ -48,7 +48,7 @@ unfolding opened
 returns-3 c =
     let a = c.before.before.before.before.before.before.before.before.args in
     let s = same a.line a.ids a.link c.before.before.before.before.before.family-on.result c.before.before.before.before.family-by.result c.before.before.before.before.before.family-on.ensures c.before.before.before.before.family-by.ensures c.before.before.before.if2.false in
-    (sym (rw (le-ltb _ _ c.before.before.before.before.before.before.if1.false, s, ← c.before.before.target-by.ensures, eq-eqb _ _ c.before.if3.true, ← c.to_nobody_holds.ensures)), search rules)
+    (sym (rw (le-ltb _ _ c.before.before.before.before.before.before.if1.false, s, ← c.before.before.target-by.ensures, eq-eqb _ _ c.before.if3.true, ← c.to_nobody.ensures)), search rules)
 
 sub-t13 : tie.Need-overflow-sub-t13
 sub-t13 c = search rules

@@ -35,7 +35,7 @@ returns-2 c = search rules
 returns-3 : tie.Need-returns-3
 returns-3 c =
     let a = c.before.before.before.before.args in
-    by-packet a.line a.ids a.link a.m.now _ c.by_tcp_holds.ensures c.before.enum-told3.given.1
+    by-packet a.line a.ids a.link a.m.now _ c.by_tcp.ensures c.before.enum-told3.given.1
 
 pub target-by-spec : {M : Type 1} → statement M
 target-by-spec =

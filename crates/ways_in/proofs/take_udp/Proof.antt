@@ -49,7 +49,7 @@ to-nobody-requires c κs = search rules
 refused-requires : tie.Need-refused-requires
 refused-requires c κs =
     let a = c.before.before.before.before.before.before.args in
-    ap (λ (x : Answer). eqb (number_of x) 0) c.to_nobody_holds.ensures ∙ nobody_shut a.m.now
+    ap (λ (x : Answer). eqb (number_of x) 0) c.to_nobody.ensures ∙ nobody_shut a.m.now
 
 returns : tie.Need-returns
 returns c =
@@ -57,7 +57,7 @@ returns c =
     let j = c.before.before.before.before.before.judge in
     let q = c.before.before.before.any-called in
     let n : any_called a.m.now (names a.b) ≡ false = sym (called_read a.b a.m.now j.result j.ensures) ∙ sym q.ensures ∙ not-true q.result c.before.before.if1.true in
-    refuses a.b (udp a.m.now) [] (to_nobody a.m.now) _ (uncalled a.b a.m.now n) (c.refused.ensures ∙ rw c.before.to_nobody_holds.ensures) refl
+    refuses a.b (udp a.m.now) [] (to_nobody a.m.now) _ (uncalled a.b a.m.now n) (c.refused.ensures ∙ rw c.before.to_nobody.ensures) refl
 
 hear-cast-requires : tie.Need-hear-cast-requires
 hear-cast-requires c κs = search rules
