@@ -42,7 +42,9 @@ unfolding bytes_of
 bytes_length Silent k l e = refl
 bytes_length Rejected k l e = frame_length type_answer l rejected e refl
 bytes_length Accepted k l e = frame_length type_answer l accepted e refl
-bytes_length (Changed s) k l e = length-append (frame_of type_answer l accepted) (frame_of type_notice (state_letters s) (value_of s k)) ∙ rw (frame_length type_answer l accepted e refl, frame_length type_notice (state_letters s) (value_of s k) (name_length s) (value_length s k))
+bytes_length (Changed s) k l e =
+    length-append (frame_of type_answer l accepted) (frame_of type_notice (state_letters s) (value_of s k))
+    ∙ rw (frame_length type_answer l accepted e refl, frame_length type_notice (state_letters s) (value_of s k) (name_length s) (value_length s k))
 bytes_length (Value s) k l e = frame_length type_answer l (value_of s k) e (value_length s k)
 
 -- where there is room for an answer and a notice, every reply goes back
