@@ -2,7 +2,7 @@
 use mathlib.Core.Path.{◌≡◌, refl, sym, ap, ◌∙◌}
 use mathlib.Core.Bool.{Bool, true, false, cond, ◌&&◌}
 use mathlib.Core.List.{List, [], ◌∷◌, ◌++◌}
-use Prim.Native.Nat.{ℕ, ◌+◌, ◌≤◌}
+use Prim.Native.Nat.{ℕ, ◌≤◌}
 use native.Mathlib.Omega.{arith}
 use lib.ListN.{length, get_or, take}
 use lib.Seq.{take_at, get_or-append-add, take-length}
@@ -56,18 +56,22 @@ input_back p h i =
     c ∙ ap (λ (n : ℕ). take n p) (sym h) ∙ take-length p
 
 -- an order that was carried out passed its test
-by_test : (b : Bool) (o : Order) (k : KRecord) → (decided k (cond b (Understood o) NotUnderstood)).answer ≡ Done → (b ≡ true) × ((decided k (cond b (Understood o) NotUnderstood)).k ≡ carried o k)
+by_test : (b : Bool) (o : Order) (k : KRecord) → (decided k (cond b (Understood o) NotUnderstood)).answer ≡ Done
+    → (b ≡ true) × ((decided k (cond b (Understood o) NotUnderstood)).k ≡ carried o k)
 unfolding decided
 by_test true o k e = (refl, refl)
 by_test false o k e = let z : ◌≡◌ {A = ℕ} 0 1 = cc in absurd (omega arith)
 
-by_tests : (a b : Bool) (o : Order) (k : KRecord) → (decided k (cond a (cond b (Understood o) NotUnderstood) NotUnderstood)).answer ≡ Done → (a ≡ true) × ((decided k (cond a (cond b (Understood o) NotUnderstood) NotUnderstood)).k ≡ carried o k)
+by_tests : (a b : Bool) (o : Order) (k : KRecord) → (decided k (cond a (cond b (Understood o) NotUnderstood) NotUnderstood)).answer ≡ Done
+    → (a ≡ true) × ((decided k (cond a (cond b (Understood o) NotUnderstood) NotUnderstood)).k ≡ carried o k)
 unfolding decided
 by_tests true b o k e = (refl, (by_test b o k e).1)
 by_tests false b o k e = let z : ◌≡◌ {A = ℕ} 0 1 = cc in absurd (omega arith)
 
 -- a word that was carried out is the word of the number that the state then has
-by_word : (s : State) (order : ℕ → Order) (word : ℕ → List ℕ) (below : ℕ) (p : List ℕ) (k : KRecord) (c : Choice) → ((v : ℕ) → value_of s (carried (order v) k) ≡ word v) → Chose word below p c → (decided k (choice_order order c)).answer ≡ Done → value_of s (decided k (choice_order order c)).k ≡ p
+by_word : (s : State) (order : ℕ → Order) (word : ℕ → List ℕ) (below : ℕ) (p : List ℕ) (k : KRecord) (c : Choice)
+    → ((v : ℕ) → value_of s (carried (order v) k) ≡ word v) → Chose word below p c → (decided k (choice_order order c)).answer ≡ Done
+    → value_of s (decided k (choice_order order c)).k ≡ p
 unfolding decided
 by_word s order word below p k (a_word v) w h e = w v ∙ h.1
 by_word s order word below p k no_word w h e = let z : ◌≡◌ {A = ℕ} 0 1 = cc in absurd (omega arith)
@@ -87,7 +91,8 @@ set_value Input p k h e =
 set_value Scene p k h e = by_word Scene SetScene scene_word 3 p k (chosen scenes p) (λ v. refl) (scene_chosen p) e
 
 -- a control or an enquiry that is well made is heard by its letters and parameters
-pub heard_frame : (t a b c d : ℕ) (p : List ℕ) → length p ≡ 16 → listed (type_control ∷ type_enquiry ∷ []) t ≡ true → heard_of (frame_of t (a ∷ b ∷ c ∷ d ∷ []) p) ≡ cond (eqb t type_control) (control_of (a ∷ b ∷ c ∷ d ∷ []) p) (enquiry_of (a ∷ b ∷ c ∷ d ∷ []) p)
+pub heard_frame : (t a b c d : ℕ) (p : List ℕ) → length p ≡ 16 → listed (type_control ∷ type_enquiry ∷ []) t ≡ true
+    → heard_of (frame_of t (a ∷ b ∷ c ∷ d ∷ []) p) ≡ cond (eqb t type_control) (control_of (a ∷ b ∷ c ∷ d ∷ []) p) (enquiry_of (a ∷ b ∷ c ∷ d ∷ []) p)
 unfolding heard_of is_ours letters_of frame_of
 heard_frame t a b c d p h k =
     let footer : get_or (p ++ (0x0a ∷ [])) 16 0 ≡ 0x0a = ap (λ (n : ℕ). get_or (p ++ (0x0a ∷ [])) n 0) (omega arith) ∙ get_or-append-add p (0x0a ∷ []) 0 0 in
@@ -107,7 +112,8 @@ unfolding control_of
 heard_control s p h = heard_letters s p h ∙ ap (λ (n : Named). control_by n (state_letters s) p) (letters_name s) ∙ sixteen s p h
 
 -- an enquiry is answered with the state's value, and changes nothing
-pub asked_reply : (s : State) (k : KRecord) → (turn_of (frame_of type_enquiry (state_letters s) blank) k).reply ≡ frame_of type_answer (state_letters s) (value_of s k)
+pub asked_reply : (s : State) (k : KRecord)
+    → (turn_of (frame_of type_enquiry (state_letters s) blank) k).reply ≡ frame_of type_answer (state_letters s) (value_of s k)
 unfolding turn_of decided heard_of is_ours letters_of enquiry_of state_named named_in state_letters carried reply_of bytes_of frame_of
 asked_reply Power k = refl
 asked_reply AudioMute k = refl
@@ -117,12 +123,15 @@ asked_reply Input k = refl
 asked_reply Scene k = refl
 
 -- what was said to be done is kept: the enquiry behind a control that was answered 0 brings its parameters back
-pub set_then_asked : (s : State) (p : List ℕ) (k : KRecord) → length p ≡ 16 → (turn_of (frame_of type_control (state_letters s) p) k).answer ≡ Done → (turn_of (frame_of type_enquiry (state_letters s) blank) (turn_of (frame_of type_control (state_letters s) p) k).after).reply ≡ frame_of type_answer (state_letters s) p
+pub set_then_asked : (s : State) (p : List ℕ) (k : KRecord) → length p ≡ 16 → (turn_of (frame_of type_control (state_letters s) p) k).answer ≡ Done
+    → (turn_of (frame_of type_enquiry (state_letters s) blank) (turn_of (frame_of type_control (state_letters s) p) k).after).reply
+    ≡ frame_of type_answer (state_letters s) p
 unfolding turn_of
 set_then_asked s p k h e =
     let q = heard_control s p h in
     let d : (decided k (set_by s p)).answer ≡ Done = ap (λ (x : Heard). (decided k x).answer) (sym q) ∙ e in
-    let v : value_of s (decided k (heard_of (frame_of type_control (state_letters s) p))).k ≡ p = ap (λ (x : Heard). value_of s (decided k x).k) q ∙ set_value s p k h d in
+    let v : value_of s (decided k (heard_of (frame_of type_control (state_letters s) p))).k ≡ p = ap (λ (x : Heard). value_of s (decided k x).k) q
+    ∙ set_value s p k h d in
     asked_reply s (decided k (heard_of (frame_of type_control (state_letters s) p))).k ∙ ap (frame_of type_answer (state_letters s)) v
 
 -- a toggle turns its switch over, whatever the panel
@@ -135,7 +144,10 @@ unfolding turn_of decided heard_of is_ours control_of state_named named_in code_
 toggled_picture k = refl
 
 -- what was said to be done is kept: the enquiry behind a control that was answered 0 brings its parameters back
-pub taken_kept : (room room' : ℕ) (s : State) (p : List ℕ) (k : KRecord) → length p ≡ 16 → (taken room (turn_of (frame_of type_control (state_letters s) p)) k).answer ≡ Done → 512 ≤ room' → (taken room' (turn_of (frame_of type_enquiry (state_letters s) blank)) (taken room (turn_of (frame_of type_control (state_letters s) p)) k).after).reply ≡ frame_of type_answer (state_letters s) p
+pub taken_kept : (room room' : ℕ) (s : State) (p : List ℕ) (k : KRecord) → length p ≡ 16
+    → (taken room (turn_of (frame_of type_control (state_letters s) p)) k).answer ≡ Done → 512 ≤ room'
+    → (taken room' (turn_of (frame_of type_enquiry (state_letters s) blank)) (taken room (turn_of (frame_of type_control (state_letters s) p)) k).after).reply
+    ≡ frame_of type_answer (state_letters s) p
 taken_kept room room' s p k h e r =
     let set = frame_of type_control (state_letters s) p in
     let ask = frame_of type_enquiry (state_letters s) blank in

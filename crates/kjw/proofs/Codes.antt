@@ -91,11 +91,13 @@ with_notice : (s : State) (k k' : KRecord) → bytes_of (noticed s k k') k' (asc
 unfolding noticed bytes_of frame_of
 with_notice s k k' = go (same (value_of s k) (value_of s k'))
   where
-    go : (b : Bool) → bytes_of (cond b Accepted (Changed s)) k' (ascii "IRCC") ≡ answer accepted ++ cond b [] (frame_of type_notice (state_letters s) (value_of s k'))
+    go : (b : Bool)
+        → bytes_of (cond b Accepted (Changed s)) k' (ascii "IRCC") ≡ answer accepted ++ cond b [] (frame_of type_notice (state_letters s) (value_of s k'))
     go true = refl
     go false = refl
 
-replied : (s : State) (k k' : KRecord) → ◌≡◌ {A = Turn KRecord} (record { after = k'; answer = Done; reply = bytes_of (noticed s k k') k' (ascii "IRCC") }) (answered k' (notice (Is s) k k'))
+replied : (s : State) (k k' : KRecord)
+    → ◌≡◌ {A = Turn KRecord} (record { after = k'; answer = Done; reply = bytes_of (noticed s k k') k' (ascii "IRCC") }) (answered k' (notice (Is s) k k'))
 replied s k k' = rw (with_notice s k k')
 
 button_met : (b : Button) (k : KRecord) → (b ≡ Unlisted → ⊥) → turned (ascii "IRCC") (decided k (pressed b)) ≡ answered_as b k

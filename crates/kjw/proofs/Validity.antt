@@ -63,7 +63,8 @@ sound (Understood o) = in_range o
 abbrev Sound : Heard → Type 0
 Sound h = sound h ≡ true
 
-word_sound : (order : ℕ → Order) (word : ℕ → List ℕ) (below : ℕ) (p : List ℕ) (c : Choice) → Chose word below p c → ((v : ℕ) → v < below → in_range (order v) ≡ true) → Sound (choice_order order c)
+word_sound : (order : ℕ → Order) (word : ℕ → List ℕ) (below : ℕ) (p : List ℕ) (c : Choice) → Chose word below p c
+    → ((v : ℕ) → v < below → in_range (order v) ≡ true) → Sound (choice_order order c)
 word_sound order word below p (a_word v) h f = f v h.0
 word_sound order word below p no_word h f = refl
 
@@ -72,7 +73,8 @@ switch_sound v h = le-leb v 1 (omega arith)
 
 volume_sound : (p : List ℕ) → Sound (volume_order p)
 unfolding volume_order
-volume_sound p = choose Sound (is_volume p) (Understood (SetVolume (decimal p))) NotUnderstood (λ e. le-leb (decimal p) most_volume (volume_most p e)) (λ e. refl)
+volume_sound p =
+    choose Sound (is_volume p) (Understood (SetVolume (decimal p))) NotUnderstood (λ e. le-leb (decimal p) most_volume (volume_most p e)) (λ e. refl)
 
 input_sound : (p : List ℕ) → Sound (input_order p)
 unfolding input_order input_of
@@ -104,7 +106,8 @@ toggle_sound l p =
 -- the HDMI buttons have ports of the range, by the table
 code_sound : (p : List ℕ) → Sound (code_order p)
 unfolding code_order ok_input
-code_sound p = choose Sound (is_code p) (pressed (button_of (decimal p))) NotUnderstood (λ e. each_asks (λ (b : Button). sound (pressed b)) refl refl (decimal p)) (λ e. refl)
+code_sound p =
+    choose Sound (is_code p) (pressed (button_of (decimal p))) NotUnderstood (λ e. each_asks (λ (b : Button). sound (pressed b)) refl refl (decimal p)) (λ e. refl)
 
 control_sound : (n : Named) (l p : List ℕ) → Sound (control_by n l p)
 unfolding code_or_toggle
@@ -166,25 +169,38 @@ turned_over_ok v = choose (λ (x : ℕ). leb x 1 ≡ true) (eqb v 0) 1 0 (λ e. 
 
 louder_ok : (v : ℕ) → leb v most_volume ≡ true → leb (louder v) most_volume ≡ true
 unfolding louder
-louder_ok v h = choose (λ (x : ℕ). leb x most_volume ≡ true) (ltb v most_volume) (v + 1) v (λ e. let l = ltb-true v most_volume e in le-leb (v + 1) most_volume (omega arith)) (λ e. h)
+louder_ok v h =
+    choose (λ (x : ℕ). leb x most_volume ≡ true) (ltb v most_volume) (v + 1) v (λ e. let l = ltb-true v most_volume e in le-leb (v + 1) most_volume (omega arith)) (λ e. h)
 
 softer_ok : (v : ℕ) → leb v most_volume ≡ true → leb (softer v) most_volume ≡ true
 unfolding softer
-softer_ok v h = choose (λ (x : ℕ). leb x most_volume ≡ true) (ltb 0 v) (v - 1) v (λ e. let l = leb-true v most_volume h in le-leb (v - 1) most_volume (omega arith)) (λ e. h)
+softer_ok v h =
+    choose (λ (x : ℕ). leb x most_volume ≡ true) (ltb 0 v) (v - 1) v (λ e. let l = leb-true v most_volume h in le-leb (v - 1) most_volume (omega arith)) (λ e. h)
 
 carried_keeps : (o : Order) (k : KRecord) → in_range o ≡ true → Settings k → Settings (carried o k)
 unfolding carried
-carried_keeps (SetPower v) k r w = record { powered = r; sound_muted = w.sound_muted; picture_muted = w.picture_muted; loud = w.loud; staged = w.staged; fed = w.fed }
-carried_keeps TogglePower k r w = record { powered = turned_over_ok k.power; sound_muted = w.sound_muted; picture_muted = w.picture_muted; loud = w.loud; staged = w.staged; fed = w.fed }
-carried_keeps (SetAudioMute v) k r w = record { powered = w.powered; sound_muted = r; picture_muted = w.picture_muted; loud = w.loud; staged = w.staged; fed = w.fed }
-carried_keeps ToggleAudioMute k r w = record { powered = w.powered; sound_muted = turned_over_ok k.amut; picture_muted = w.picture_muted; loud = w.loud; staged = w.staged; fed = w.fed }
-carried_keeps (SetPictureMute v) k r w = record { powered = w.powered; sound_muted = w.sound_muted; picture_muted = r; loud = w.loud; staged = w.staged; fed = w.fed }
-carried_keeps TogglePictureMute k r w = record { powered = w.powered; sound_muted = w.sound_muted; picture_muted = turned_over_ok k.pmut; loud = w.loud; staged = w.staged; fed = w.fed }
-carried_keeps (SetVolume v) k r w = record { powered = w.powered; sound_muted = w.sound_muted; picture_muted = w.picture_muted; loud = r; staged = w.staged; fed = w.fed }
-carried_keeps Louder k r w = record { powered = w.powered; sound_muted = w.sound_muted; picture_muted = w.picture_muted; loud = louder_ok k.volume w.loud; staged = w.staged; fed = w.fed }
-carried_keeps Softer k r w = record { powered = w.powered; sound_muted = w.sound_muted; picture_muted = w.picture_muted; loud = softer_ok k.volume w.loud; staged = w.staged; fed = w.fed }
-carried_keeps (SetInput kind port) k r w = record { powered = w.powered; sound_muted = w.sound_muted; picture_muted = w.picture_muted; loud = w.loud; staged = w.staged; fed = r }
-carried_keeps (SetScene v) k r w = record { powered = w.powered; sound_muted = w.sound_muted; picture_muted = w.picture_muted; loud = w.loud; staged = r; fed = w.fed }
+carried_keeps (SetPower v) k r w =
+    record { powered = r; sound_muted = w.sound_muted; picture_muted = w.picture_muted; loud = w.loud; staged = w.staged; fed = w.fed }
+carried_keeps TogglePower k r w =
+    record { powered = turned_over_ok k.power; sound_muted = w.sound_muted; picture_muted = w.picture_muted; loud = w.loud; staged = w.staged; fed = w.fed }
+carried_keeps (SetAudioMute v) k r w =
+    record { powered = w.powered; sound_muted = r; picture_muted = w.picture_muted; loud = w.loud; staged = w.staged; fed = w.fed }
+carried_keeps ToggleAudioMute k r w =
+    record { powered = w.powered; sound_muted = turned_over_ok k.amut; picture_muted = w.picture_muted; loud = w.loud; staged = w.staged; fed = w.fed }
+carried_keeps (SetPictureMute v) k r w =
+    record { powered = w.powered; sound_muted = w.sound_muted; picture_muted = r; loud = w.loud; staged = w.staged; fed = w.fed }
+carried_keeps TogglePictureMute k r w =
+    record { powered = w.powered; sound_muted = w.sound_muted; picture_muted = turned_over_ok k.pmut; loud = w.loud; staged = w.staged; fed = w.fed }
+carried_keeps (SetVolume v) k r w =
+    record { powered = w.powered; sound_muted = w.sound_muted; picture_muted = w.picture_muted; loud = r; staged = w.staged; fed = w.fed }
+carried_keeps Louder k r w =
+    record { powered = w.powered; sound_muted = w.sound_muted; picture_muted = w.picture_muted; loud = louder_ok k.volume w.loud; staged = w.staged; fed = w.fed }
+carried_keeps Softer k r w =
+    record { powered = w.powered; sound_muted = w.sound_muted; picture_muted = w.picture_muted; loud = softer_ok k.volume w.loud; staged = w.staged; fed = w.fed }
+carried_keeps (SetInput kind port) k r w =
+    record { powered = w.powered; sound_muted = w.sound_muted; picture_muted = w.picture_muted; loud = w.loud; staged = w.staged; fed = r }
+carried_keeps (SetScene v) k r w =
+    record { powered = w.powered; sound_muted = w.sound_muted; picture_muted = w.picture_muted; loud = w.loud; staged = r; fed = w.fed }
 carried_keeps Pass k r w = w
 carried_keeps (Ask s) k r w = w
 
