@@ -1,13 +1,11 @@
 -- `obey` puts the settings and the shifts after the order into the record: whatever the order, these are all that it changes.
 use mathlib.Core.Path.{◌≡◌, refl}
-use borrow.Author.Rules.{rules}
 use Rattle.panels.specs.declared.WRecord.{WRecord}
 use Rattle.vmc_asks.specs.declared.Order.{Order}
 use Rattle.vmc_asks.specs.declared.Order.TheVariants.{Set, Shift, Reset, Get}
 use Rattle.vmc.specs.Orders.{with_settings, with_shifts, carried}
 use Rattle.vmc.specs.Changes.{settings_after, shifts_after}
-use Rattle.vmc.proofs.obey.Statement.{statement}
-use Rattle.vmc.proofs.obey.Tie as tie
+use Rattle.vmc.proofs.obey.Goals as goal
 
 changes-alone : (o : Order) (w : WRecord) → with_shifts (with_settings w (settings_after o w.settings)) (shifts_after o w.shifts) ≡ carried o w
 unfolding settings_after shifts_after carried
@@ -16,14 +14,8 @@ changes-alone (Shift axis z) w = refl
 changes-alone Reset w = refl
 changes-alone (Get k) w = refl
 
-changed-requires : tie.Need-changed-requires
-changed-requires c κs = search rules
-
-returns : tie.Need-returns
+pub returns : goal.returns
 returns c =
-    let a = c.before.before.before.before.before.args in
-    let e = c.before.before.changed.ensures in
+    let a = c.args in
+    let e = c.changed-n.ensures in
     rw (e.0, e.1) (changes-alone a.o a.w)
-
-pub obey-spec : {M : Type 1} → statement M
-obey-spec = tie.close (tie.spec changed-requires returns)
