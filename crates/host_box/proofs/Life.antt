@@ -15,7 +15,7 @@ use Rattle.steps.specs.Run.{Got, got_by, run, kept, replies}
 use Rattle.steps.proofs.Alone.{eight_places, demand_3}
 use Rattle.steps.proofs.Validity.{names_kept}
 use Rattle.host_box.specs.Called.{way_of, called_by, called}
-use Rattle.host_box.specs.Life.{Call, after_call, life, and_by, and_that, messages_of, is_for_by, CallGot, with_area_lem, without_area, got_through, gots}
+use Rattle.host_box.specs.Life.{Call, after_call, life, and_by, and_that, messages_of, is_for_by, CallGot, with_area, without_area, got_through, gots}
 use Rattle.addresses.specs.declared.Line.TheVariants.{Rs232c, Kjw, Tcp}
 use Rattle.ways_in.specs.declared.Way.TheVariants.{By, Udp}
 use Rattle.host_box.specs.declared.Entry.{Entry}
@@ -41,9 +41,9 @@ life_is_run b (k ∷ ks) = life_is_run (after_call b k) ks ∙ one_call b (messa
 
 -- what a host is told of what a message got
 abbrev told : Message → Got → CallGot
-told (rs232c l m area) g = with_area_lem (number_of g.answer) (answerPlace g.answer) g.back.len g.back.area
-told (kjw l m area) g = with_area_lem (number_of g.answer) (answerPlace g.answer) g.back.len g.back.area
-told (tcp l m area) g = with_area_lem (number_of g.answer) (answerPlace g.answer) g.back.len g.back.area
+told (rs232c l m area) g = with_area (number_of g.answer) (answerPlace g.answer) g.back.len g.back.area
+told (kjw l m area) g = with_area (number_of g.answer) (answerPlace g.answer) g.back.len g.back.area
+told (tcp l m area) g = with_area (number_of g.answer) (answerPlace g.answer) g.back.len g.back.area
 told (udp m) g = without_area (number_of g.answer) (answerPlace g.answer) g.back.len true
 
 abbrev told_all : List Message → List Got → List CallGot

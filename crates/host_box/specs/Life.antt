@@ -51,11 +51,11 @@ is_for i ns k = is_for_by (way_of k.way) i ns k
 -- in there is no part of the message, and may be another in a life that is the same to the panels. So of that area it is said whether it is as it
 -- came
 pub data CallGot : Type 0 where
-  with_area_holds : (answer place len : ℕ) → List ℕ → CallGot
+  with_area : (answer place len : ℕ) → List ℕ → CallGot
   without_area : (answer place len : ℕ) → Bool → CallGot
 
 abbrev pub got_through : Entry → List ℕ → Called → CallGot
-got_through (Through (By line)) area c = with_area_holds c.answer c.place c.len c.area
+got_through (Through (By line)) area c = with_area c.answer c.place c.len c.area
 got_through (Through Udp) area c = without_area c.answer c.place c.len (same c.area area)
 got_through Nowhere area c = without_area c.answer c.place c.len (same c.area area)
 
