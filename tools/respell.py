@@ -41,7 +41,7 @@ def snake(name):
 
 def of_functions(path):
     """Whether a file is a function's own proof: its names are Rattle's, but for helpers."""
-    return path.endswith(("/Proof.antt", "/Answers.antt", "/Invariants.antt"))
+    return "/specs/" not in path and path.endswith(("/Proof.antt", "/Answers.antt", "/Invariants.antt"))
 
 
 class Names:

@@ -9,7 +9,7 @@ use lib.ListN.{length, get_or}
 use borrow.Author.Tests.{eqb-false, ltb-true, ltb-false}
 use Rattle.laws.specs.Lists.{listed}
 use Rattle.laws.proofs.Conditions.{choose}
-use Rattle.terms.specs.Answers.{answerPlace}
+use Rattle.terms.specs.Answers.{answer_place}
 use Rattle.terms.specs.declared.Answer.{Answer}
 use Rattle.terms.specs.declared.Answer.TheVariants.{WrongLength, NotForUs}
 use Rattle.terms.proofs.Answers.{place_none}
@@ -82,10 +82,10 @@ module _ (b : DisplayBox) (way link : ℕ) (m area : List ℕ) where
   abbrev Untouched : Called → Type 0
   Untouched c = (c.box ≡ b) × ((c.place ≡ 0) × ((c.len ≡ 0) × (c.area ≡ area)))
 
-  untouched : (msg : Message) → Lends link area msg → (step b msg).box ≡ b → answerPlace (step b msg).answer ≡ 0 → (step b msg).back ≡ back msg [] → Untouched (lent (step b msg))
+  untouched : (msg : Message) → Lends link area msg → (step b msg).box ≡ b → answer_place (step b msg).answer ≡ 0 → (step b msg).back ≡ back msg [] → Untouched (lent (step b msg))
   untouched msg k p n q = let e = q ∙ none_sent link area msg k in (p, (n, (ap (λ (x : Back). x.len) e, ap (λ (x : Back). x.area) e)))
 
-  untouched_udp : (step b (udp m)).box ≡ b → answerPlace (step b (udp m)).answer ≡ 0 → Untouched (in_numbers (unanswered (step b (udp m)) area))
+  untouched_udp : (step b (udp m)).box ≡ b → answer_place (step b (udp m)).answer ≡ 0 → Untouched (in_numbers (unanswered (step b (udp m)) area))
   untouched_udp p n = (p, (n, (ap (λ (x : Back). x.len) (udp_quiet b m), refl)))
 
   -- "none" as the reply and "unchanged" stand beside the answers 1 to 4: box and area are as they came, whatever the number of the way
@@ -96,18 +96,18 @@ module _ (b : DisplayBox) (way link : ℕ) (m area : List ℕ) where
       (λ z h. (refl, (refl, (refl, refl))))
 
   -- a box that breaks the rules answers 1 to 4, which have no place
-  bad_place : (msg : Message) → Lends link area msg → valid b ≡ false → answerPlace (step b msg).answer ≡ 0
+  bad_place : (msg : Message) → Lends link area msg → valid b ≡ false → answer_place (step b msg).answer ≡ 0
   bad_place msg k v = go (ltb (length area) 512) refl
     where
-      go : (t : Bool) → ltb (length area) 512 ≡ t → answerPlace (step b msg).answer ≡ 0
-      go true e = ap (λ (o : Outcome). answerPlace o.answer) (too_small b link area msg k (ltb-true (length area) 512 e))
-      go false e = ap (λ (o : Outcome). answerPlace o.answer) (bad_lent b link area msg v k (ltb-false (length area) 512 e))
+      go : (t : Bool) → ltb (length area) 512 ≡ t → answer_place (step b msg).answer ≡ 0
+      go true e = ap (λ (o : Outcome). answer_place o.answer) (too_small b link area msg k (ltb-true (length area) 512 e))
+      go false e = ap (λ (o : Outcome). answer_place o.answer) (bad_lent b link area msg v k (ltb-false (length area) 512 e))
 
-  bad_place_udp : valid b ≡ false → answerPlace (step b (udp m)).answer ≡ 0
+  bad_place_udp : valid b ≡ false → answer_place (step b (udp m)).answer ≡ 0
   unfolding to_nobody
   bad_place_udp v =
-      ap (λ (o : Outcome). answerPlace o.answer) (bad_udp b m v)
-      ∙ choose (λ (a : Answer). answerPlace a ≡ 0) (ltb (length m) 13) WrongLength NotForUs (λ e. refl) (λ e. refl)
+      ap (λ (o : Outcome). answer_place o.answer) (bad_udp b m v)
+      ∙ choose (λ (a : Answer). answer_place a ≡ 0) (ltb (length m) 13) WrongLength NotForUs (λ e. refl) (λ e. refl)
 
   -- "A box handed in that breaks these rules [..] is [..] given back as it came", bit for bit, whatever the way
   pub garbage : valid b ≡ false → Untouched (called b way link m area)

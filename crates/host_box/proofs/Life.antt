@@ -5,7 +5,7 @@ use mathlib.Core.List.{List, [], ◌∷◌}
 use Prim.Native.Nat.{ℕ, ◌<◌}
 use lib.ListN.{length}
 use Rattle.laws.proofs.Lists.{same_self}
-use Rattle.terms.specs.Answers.{number_of, answerPlace}
+use Rattle.terms.specs.Answers.{number_of, answer_place}
 use Rattle.panels.specs.declared.DisplayBox.{DisplayBox}
 use Rattle.configure.specs.Configure.{configured}
 use Rattle.steps.specs.Messages.{Message, rs232c, kjw, tcp, udp, names}
@@ -41,10 +41,10 @@ life_is_run b (k ∷ ks) = life_is_run (after_call b k) ks ∙ one_call b (messa
 
 -- what a host is told of what a message got
 abbrev told : Message → Got → CallGot
-told (rs232c l m area) g = with_area (number_of g.answer) (answerPlace g.answer) g.back.len g.back.area
-told (kjw l m area) g = with_area (number_of g.answer) (answerPlace g.answer) g.back.len g.back.area
-told (tcp l m area) g = with_area (number_of g.answer) (answerPlace g.answer) g.back.len g.back.area
-told (udp m) g = without_area (number_of g.answer) (answerPlace g.answer) g.back.len true
+told (rs232c l m area) g = with_area (number_of g.answer) (answer_place g.answer) g.back.len g.back.area
+told (kjw l m area) g = with_area (number_of g.answer) (answer_place g.answer) g.back.len g.back.area
+told (tcp l m area) g = with_area (number_of g.answer) (answer_place g.answer) g.back.len g.back.area
+told (udp m) g = without_area (number_of g.answer) (answer_place g.answer) g.back.len true
 
 abbrev told_all : List Message → List Got → List CallGot
 told_all [] gs = []
@@ -72,7 +72,7 @@ module _ (i : ℕ) where
   got_by_entry b k ms ks (Through (By Tcp)) r = in_front_lem b (tcp k.link k.message k.area) ms _ _ refl (r (step b (tcp k.link k.message k.area)).box)
   got_by_entry b k ms ks (Through Udp) r =
       let o = step b (udp k.message) in
-      in_front_lem b (udp k.message) ms _ _ (ap (without_area (number_of o.answer) (answerPlace o.answer) o.back.len) (same_self k.area)) (r o.box)
+      in_front_lem b (udp k.message) ms _ _ (ap (without_area (number_of o.answer) (answer_place o.answer) o.back.len) (same_self k.area)) (r o.box)
   got_by_entry b k ms ks Nowhere r = r b
 
   -- what a host's calls got is what the messages of the run got

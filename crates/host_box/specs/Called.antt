@@ -1,6 +1,6 @@
 -- The box as a C host calls it: the one step, its ways in told apart by a number, its answers as numbers.
 use Rattle.std.specs.Prelude.{ℕ, ◌-◌, cond, ◌&&◌, List, eqb, leb}
-use Rattle.terms.specs.Answers.{number_of, answerPlace}
+use Rattle.terms.specs.Answers.{number_of, answer_place}
 use Rattle.terms.specs.declared.Answer.TheVariants.{NoSuchPanel}
 use Rattle.panels.specs.Records.{zero_panel}
 use Rattle.panels.specs.Valid.{valid}
@@ -29,11 +29,11 @@ pub record Called : Type 0 where
   pub area : List ℕ
 
 abbrev pub in_numbers : Came → Called
-in_numbers c = record { box = c.box; answer = number_of c.answer; place = answerPlace c.answer; len = c.len; area = c.area }
+in_numbers c = record { box = c.box; answer = number_of c.answer; place = answer_place c.answer; len = c.len; area = c.area }
 
 -- a way that does not exist leads to no panel
 abbrev pub no_way : DisplayBox → List ℕ → Called
-no_way b area = record { box = b; answer = number_of NoSuchPanel; place = answerPlace NoSuchPanel; len = 0; area = area }
+no_way b area = record { box = b; answer = number_of NoSuchPanel; place = answer_place NoSuchPanel; len = 0; area = area }
 
 -- "RS-232C port of panel p, KJW link of panel p, SDCP by TCP on the link of panel p, or SDCP by UDP": 1, 2, 3, 4
 unfoldable pub way_of : ℕ → Entry

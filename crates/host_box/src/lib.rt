@@ -2,7 +2,7 @@
 #![tactic(auto)]
 
 ghost use Rattle.std.specs.Prelude.{◌≡◌, eqb};
-ghost use Rattle.terms.specs.Answers.{number_of, answerPlace};
+ghost use Rattle.terms.specs.Answers.{number_of, answer_place};
 ghost use Rattle.configure.specs.Configure.{configured};
 ghost use Rattle.host_box.specs.Called.{made_of, way_of, called, numbers_of, panel_behind};
 
@@ -47,7 +47,7 @@ struct AnswerNumbers {
 // What was done has 0 for both, and its answer is not asked: so its box goes on without a copy.
 fn answer_numbers(answer: Answer, done: bool) -> AnswerNumbers
     requires { done ≡ eqb (number_of answer) 0 }
-    ensures { result ≡ record { number = number_of answer; place = answerPlace answer } }
+    ensures { result ≡ record { number = number_of answer; place = answer_place answer } }
 {
     if done {
         return AnswerNumbers {

@@ -26,12 +26,12 @@ use Rattle.script_listings.specs.Listings.{entries_text, end_text, plain_text}
 use Rattle.script_panels.specs.Panels.{boxed, is_there, shown_at}
 use Rattle.script_receivers.specs.Receivers.{packets_text, pieced, pieced_by}
 use Rattle.script_orders.specs.Orders.{ordered}
-use Rattle.script.specs.Answers.{LineEffect, at_start, onBox, on_link, carriedOut, answered}
+use Rattle.script.specs.Answers.{LineEffect, at_start, on_box, on_link, carried_out, answered}
 use Rattle.script.specs.declared.Held.{Held}
 
 -- what a line does first in a script, each definition opened
 opened : String → LineEffect
-unfolding answered carriedOut at_start onBox on_link ordered order_of is_passed_over asks_box panels_in panel_kinds words_in asks order_in shaped is_kind is_family is_link is_hex is_hex_digit is_numeral leads_zero up_to is_digit decimal number_at bytes_at bytes_in hex_value writes summed sum_of shown_at is_there boxed configuration_of configuration configured asked asked_at valid ok_panel ok_family zero_ids number_text plain width width_from in_digits pieced_by pieced packets_text fed_by given handed holding held_in agrees noise size_of whole plain_text entries_text end_text listed between no_entries
+unfolding answered carried_out at_start on_box on_link ordered order_of is_passed_over asks_box panels_in panel_kinds words_in asks order_in shaped is_kind is_family is_link is_hex is_hex_digit is_numeral leads_zero up_to is_digit decimal number_at bytes_at bytes_in hex_value writes summed sum_of shown_at is_there boxed configuration_of configuration configured asked asked_at valid ok_panel ok_family zero_ids number_text plain width width_from in_digits pieced_by pieced packets_text fed_by given handed holding held_in agrees noise size_of whole plain_text entries_text end_text listed between no_entries
 opened s = answered at_start (ascii s)
 
 passed : opened "# a remark" ≡ record { held = at_start; text = [] }

@@ -25,27 +25,27 @@ pub record LineEffect : Type 0 where
   pub text : List ℕ
 
 -- an order on the box, as `box`, "leaves the receivers alone"
-unfoldable pub onBox : Held → Effect → LineEffect
-onBox s o = record { held = record { made = o.box; receivers = s.receivers }; text = o.text }
+unfoldable pub on_box : Held → Effect → LineEffect
+on_box s o = record { held = record { made = o.box; receivers = s.receivers }; text = o.text }
 
 -- "the receiver of TCP link LINK (1 to 8)": link less 1 is its place
-abbrev pub linkPlace : List ℕ → ℕ
-linkPlace line = number_at most_link 1 line - 1
+abbrev pub link_place : List ℕ → ℕ
+link_place line = number_at most_link 1 line - 1
 
-abbrev pub receiverAt : ℕ → Held → Receiver
-receiverAt i s = get_or s.receivers i (record { held = 0; store = [] })
+abbrev pub receiver_at : ℕ → Held → Receiver
+receiver_at i s = get_or s.receivers i (record { held = 0; store = [] })
 
 -- a piece goes to that receiver alone
 unfoldable pub on_link : ℕ → Held → LinkEffect → LineEffect
 on_link i s o = record { held = record { made = o.box; receivers = set s.receivers i o.receiver }; text = o.text }
 
 -- what each order does and writes
-unfoldable pub carriedOut : Order → Held → List ℕ → LineEffect
-carriedOut (OnBox o) s line = onBox s (ordered o s.made line)
-carriedOut Piece s line = on_link (linkPlace line) s (pieced_by s.made (receiverAt (linkPlace line) s) line)
+unfoldable pub carried_out : Order → Held → List ℕ → LineEffect
+carried_out (OnBox o) s line = on_box s (ordered o s.made line)
+carried_out Piece s line = on_link (link_place line) s (pieced_by s.made (receiver_at (link_place line) s) line)
 
 unfoldable pub answered : Held → List ℕ → LineEffect
-answered s line = carriedOut (order_of line) s line
+answered s line = carried_out (order_of line) s line
 
 -- the promise: what is held after the line, and its text at the front of the area, cut off where the area ends
 pub record Leaves (o : LineEffect) (r : Left) (area area' : List ℕ) : Type 0 where

@@ -5,7 +5,7 @@
 ghost use Rattle.std.specs.Prelude.{◌≡◌, ◌<◌};
 ghost use Rattle.script_receivers.specs.Receivers.{pieced_by};
 ghost use Rattle.script_orders.specs.Orders.{ordered};
-ghost use Rattle.script.specs.Answers.{linkPlace, receiverAt, onBox, on_link, answered, Leaves};
+ghost use Rattle.script.specs.Answers.{link_place, receiver_at, on_box, on_link, answered, Leaves};
 
 use panels::DisplayBox;
 use receiver::Receiver;
@@ -30,7 +30,7 @@ pub struct Left {
 
 // An order on the box.
 fn box_line(order: BoxOrder, s: Held, line: &[u8], out: &mut [u8]) -> Left
-    ensures { Leaves (onBox s (ordered order s.made line.now)) result out.old out.new }
+    ensures { Leaves (on_box s (ordered order s.made line.now)) result out.old out.new }
 {
     let b = s.made;
     let receivers = s.receivers;
@@ -45,7 +45,7 @@ fn box_line(order: BoxOrder, s: Held, line: &[u8], out: &mut [u8]) -> Left
 
 // The place of the receiver that a line's piece is for.
 fn place_in(line: &[u8]) -> usize
-    ensures { (result ≡ linkPlace line.now) × (result < 8) }
+    ensures { (result ≡ link_place line.now) × (result < 8) }
 {
     let link = number_at(line, 1, LINKS) as usize;
     if link == 0 {
@@ -56,7 +56,7 @@ fn place_in(line: &[u8]) -> usize
 
 // A piece for a receiver.
 fn piece_line(s: Held, line: &[u8], out: &mut [u8]) -> Left
-    ensures { Leaves (on_link (linkPlace line.now) s (pieced_by s.made (receiverAt (linkPlace line.now) s) line.now)) result out.old out.new }
+    ensures { Leaves (on_link (link_place line.now) s (pieced_by s.made (receiver_at (link_place line.now) s) line.now)) result out.old out.new }
 {
     let b = s.made;
     let mut receivers = s.receivers;

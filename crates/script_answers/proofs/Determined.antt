@@ -5,7 +5,7 @@ use Prim.Native.Nat.{ℕ}
 use Rattle.terms.specs.declared.Answer.{Answer}
 use Rattle.panels.specs.declared.DisplayBox.{DisplayBox}
 use Rattle.script_text.proofs.Puts.{puts_one}
-use Rattle.script_answers.specs.Answers.{Effect, Answers, writes, answerText, replied}
+use Rattle.script_answers.specs.Answers.{Effect, Answers, writes, answer_text, replied}
 use Rattle.script_answers.specs.Endings.{Ends}
 use Rattle.script_answers.specs.declared.Answered.{Answered}
 
@@ -34,8 +34,8 @@ module _ (b : DisplayBox) (area : List ℕ) (r r' : Answered) (x x' : List ℕ) 
   pub say_one : (text : List ℕ) → Answers (writes b text) r area x → Answers (writes b text) r' area x' → Agree r r' x x'
   say_one text = answers_one (writes b text) area r r' x x'
 
-  pub say_answer_one : (a : Answer) → Answers (writes b (answerText a)) r area x → Answers (writes b (answerText a)) r' area x' → Agree r r' x x'
-  say_answer_one a = answers_one (writes b (answerText a)) area r r' x x'
+  pub say_answer_one : (a : Answer) → Answers (writes b (answer_text a)) r area x → Answers (writes b (answer_text a)) r' area x' → Agree r r' x x'
+  say_answer_one a = answers_one (writes b (answer_text a)) area r r' x x'
 
   pub say_reply_one : (a : Answer) (len : ℕ) (lent : List ℕ) → Answers (writes b (replied a len lent)) r area x → Answers (writes b (replied a len lent)) r' area x' → Agree r r' x x'
   say_reply_one a len lent = answers_one (writes b (replied a len lent)) area r r' x x'

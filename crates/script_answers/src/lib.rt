@@ -2,7 +2,7 @@
 #![tactic(auto)]
 
 ghost use Rattle.std.specs.Prelude.{◌≡◌, length, take};
-ghost use Rattle.script_answers.specs.Answers.{Answers, writes, answerText, replied};
+ghost use Rattle.script_answers.specs.Answers.{Answers, writes, answer_text, replied};
 ghost use Rattle.script_answers.specs.Endings.{Ends};
 
 use panels::DisplayBox;
@@ -34,7 +34,7 @@ pub fn say(b: DisplayBox, out: &mut [u8], text: &[u8]) -> Answered
 
 // An answer alone: its number, and its place.
 pub fn say_answer(b: DisplayBox, out: &mut [u8], answer: Answer) -> Answered
-    ensures { Answers (writes b (answerText answer)) result out.old out.new }
+    ensures { Answers (writes b (answer_text answer)) result out.old out.new }
 {
     let at = put_placed(out, 0, answer_number(answer), answer_place(answer));
     ended(b, out, at)

@@ -8,11 +8,11 @@ use Rattle.sdap.specs.Rules.{write_answer, area_after}
 use Rattle.sdap.specs.declared.Advert.{Advert as Fields}
 use Rattle.sdap.specs.declared.Read.{Read}
 use Rattle.script_fields.specs.Fields.{advert_text}
-use Rattle.script_answers.specs.Answers.{answerText, replied}
+use Rattle.script_answers.specs.Answers.{answer_text, replied}
 
 -- "`answer A`, and on 0 the fields"
 unfoldable pub read_text : Read → List ℕ
-read_text r = cond (eqb (number_of r.answer) 0) (advert_text r.fields) (answerText r.answer)
+read_text r = cond (eqb (number_of r.answer) 0) (advert_text r.fields) (answer_text r.answer)
 
 -- "`answer A reply HEX`: the 122 bytes on 0, else `-`"
 abbrev pub filled : Answer → ℕ

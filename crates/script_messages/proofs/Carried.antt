@@ -9,7 +9,7 @@ use Rattle.steps.specs.Step.{step}
 use Rattle.ways_in.specs.Promise.{Steps, message_of, outcome_of, came_by}
 use Rattle.ways_in.specs.declared.Way.TheVariants.{By, Udp}
 use Rattle.ways_in.specs.declared.Outcome.{Outcome}
-use Rattle.script_answers.specs.Answers.{writes, answerText, replied}
+use Rattle.script_answers.specs.Answers.{writes, answer_text, replied}
 use Rattle.script_messages.specs.Messages.{stepped, spread}
 use Rattle.addresses.specs.declared.Line.{Line}
 
@@ -33,9 +33,9 @@ linked_steps b line l m area t area' s = record {
 }
 
 -- and by UDP only the answer is written
-pub spread_text : (b : DisplayBox) (l : ℕ) (m area : List ℕ) (t : Outcome) → t ≡ outcome_of (came_by Udp b l m area) → writes t.after (answerText t.answer) ≡ spread (step b (udp m))
+pub spread_text : (b : DisplayBox) (l : ℕ) (m area : List ℕ) (t : Outcome) → t ≡ outcome_of (came_by Udp b l m area) → writes t.after (answer_text t.answer) ≡ spread (step b (udp m))
 unfolding spread
-spread_text b l m area t s = ap (λ (x : Outcome). writes x.after (answerText x.answer)) s
+spread_text b l m area t s = ap (λ (x : Outcome). writes x.after (answer_text x.answer)) s
 
 -- equal parts make equal messages
 pub carried_same : (b : DisplayBox) (by : Line) {l l' : ℕ} {m m' a a' : List ℕ} → l ≡ l' → m ≡ m' → a ≡ a' → stepped (step b (message_of by l m a)) ≡ stepped (step b (message_of by l' m' a'))

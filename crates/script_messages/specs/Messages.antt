@@ -5,7 +5,7 @@ use Rattle.steps.specs.Step.{step}
 use Rattle.steps.specs.Step as steps
 use Rattle.script_words.specs.Words.{number_at, bytes_at}
 use Rattle.script_words.specs.Kinds.{most_n, most_area}
-use Rattle.script_answers.specs.Answers.{Effect, writes, filler, answerText, replied}
+use Rattle.script_answers.specs.Answers.{Effect, writes, filler, answer_text, replied}
 use Rattle.addresses.specs.declared.Line.{Line}
 use Rattle.ways_in.specs.Promise.{message_of}
 
@@ -17,4 +17,4 @@ messaged by b line = stepped (step b (message_of by (number_at most_n 1 line) (b
 
 -- "by SDCP on UDP"
 unfoldable pub spread : steps.Outcome → Effect
-spread o = writes o.box (answerText o.answer)
+spread o = writes o.box (answer_text o.answer)

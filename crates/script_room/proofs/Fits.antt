@@ -14,7 +14,7 @@ use Rattle.laws.specs.Lists.{every}
 use Rattle.laws.proofs.Conditions.{choose}
 use Rattle.laws.proofs.Lists.{listed_every}
 use Rattle.laws.proofs.Numbers.{length_in_bytes}
-use Rattle.terms.specs.Answers.{number_of, answerPlace}
+use Rattle.terms.specs.Answers.{number_of, answer_place}
 use Rattle.terms.specs.declared.Answer.{Answer}
 use Rattle.sums.specs.Sums.{sums_to_zero}
 use Rattle.decimals.specs.Decimals.{in_digits, numeral}
@@ -73,7 +73,7 @@ use Rattle.script_parts.specs.Parts.{on_text, inputs_text, scene_text, input_tex
 use Rattle.script_balance.specs.Balance.{gains_text, bias_text, biases_text, balance_text}
 use Rattle.script_fields.specs.Fields.{head_text, addresses_text, tail_text, advert_text}
 use Rattle.script_write.specs.Wanted.{wanted}
-use Rattle.script_answers.specs.Answers.{writes, filler, answerText, replied}
+use Rattle.script_answers.specs.Answers.{writes, filler, answer_text, replied}
 use Rattle.script_bytes.specs.Bytes.{read_text, filled, wrote, summed}
 use Rattle.script_listings.specs.Listings.{entry_text, entries_text, end_text, plain_text}
 use Rattle.script_panels.specs.Panels.{boxed, is_there, shown_at}
@@ -148,7 +148,7 @@ placed_fits answer place =
 pub replied_short : (a : Answer) (n : ℕ) (area : List ℕ) → length (replied a n area) ≤ 2 * n + 47
 unfolding replied reply_text
 replied_short a n area =
-    let x = placed_fits (number_of a) (answerPlace a) in
+    let x = placed_fits (number_of a) (answer_place a) in
     let y = told_fits (ascii " reply ") (take n area) in
     let t = taken_fits n area in
     let z = spoiled_fits (drop n area) in
@@ -329,8 +329,8 @@ advert_fits a s =
 read_fits : (r : Read) → Short r.fields → length (read_text r) ≤ 1500
 unfolding read_text
 read_fits r s =
-    let a = placed_fits (number_of r.answer) (answerPlace r.answer) in
-    either (eqb (number_of r.answer) 0) (advert_text r.fields) (answerText r.answer) 1500 (advert_fits r.fields s) (omega (arith, a))
+    let a = placed_fits (number_of r.answer) (answer_place r.answer) in
+    either (eqb (number_of r.answer) 0) (advert_text r.fields) (answer_text r.answer) 1500 (advert_fits r.fields s) (omega (arith, a))
 
 wrote_fits : (a : Fields) (area : List ℕ) → length (wrote a area) ≤ 1000
 unfolding wrote
@@ -462,8 +462,8 @@ order_fits Kjw b line = message_fits lines.Kjw b line
 order_fits Tcp b line = message_fits lines.Tcp b line
 order_fits Udp b line =
     let o = step b (udp (bytes_at 1 line)) in
-    let s = placed_fits (number_of o.answer) (answerPlace o.answer) in
-    writes_fit o.box (answerText o.answer) (omega (arith, s))
+    let s = placed_fits (number_of o.answer) (answer_place o.answer) in
+    writes_fit o.box (answer_text o.answer) (omega (arith, s))
 order_fits Show b line = let s = shown_fits b (number_at most_n 1 line) in writes_fit b (shown_at b (number_at most_n 1 line)) (omega (arith, s))
 order_fits Advert b line = writes_fit b (read_text (read_of (bytes_at 1 line))) (read_fits (read_of (bytes_at 1 line)) (read_short (bytes_at 1 line)))
 order_fits Write b line =

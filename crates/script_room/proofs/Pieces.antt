@@ -26,7 +26,7 @@ use Rattle.script_text.specs.Texts.{number_text}
 use Rattle.script_answers.specs.Answers.{writes, filler}
 use Rattle.script_messages.specs.Messages.{stepped}
 use Rattle.script_receivers.specs.Receivers.{packet_message, packeted, packets_text, pieced, pieced_by}
-use Rattle.script.specs.Answers.{onBox, on_link, carriedOut, answered}
+use Rattle.script.specs.Answers.{on_box, on_link, carried_out, answered}
 use Rattle.script.specs.declared.Held.{Held}
 use Rattle.script_room.specs.Room.{room}
 use Rattle.script_room.proofs.Fits.{said_fits, told_fits, replied_short, step_replies, order_fits}
@@ -79,9 +79,9 @@ piece_fits b r line =
 
 -- so the area of the program cuts nothing off
 pub text_fits : (s : Held) (line : List ℕ) → length (answered s line).text ≤ room
-unfolding answered carriedOut onBox on_link
+unfolding answered carried_out on_box on_link
 text_fits s line = go (order_of line)
   where
-    go : (o : Order) → length (carriedOut o s line).text ≤ room
+    go : (o : Order) → length (carried_out o s line).text ≤ room
     go (OnBox o) = order_fits o s.made line
     go Piece = piece_fits s.made _ line

@@ -13,9 +13,9 @@ use Rattle.script_lines.specs.Orders.{is_passed_over, order_of}
 use Rattle.script_lines.specs.declared.Order.{Order}
 use Rattle.script_lines.specs.declared.Order.TheVariants.{OnBox}
 use Rattle.script_lines.specs.declared.BoxOrder.TheVariants.{Passed, Unread}
-use Rattle.script.specs.Answers.{onBox}
+use Rattle.script.specs.Answers.{on_box}
 use Rattle.script_orders.specs.Orders.{ordered}
-use Rattle.script.specs.Answers.{carriedOut, answered}
+use Rattle.script.specs.Answers.{carried_out, answered}
 
 -- what a line that is too long is: its first byte says it
 abbrev long_order : List ℕ → Order
@@ -25,14 +25,14 @@ long_order_lem : (l : List ℕ) → 4096 < length l → order_of l ≡ long_orde
 unfolding order_of is_passed_over
 long_order_lem l h = rw (ne_eqb (length l) 0 (λ e. omega (arith, h, e)), lt-ltb 4096 (length l) h)
 
-unheard : (c : Bool) (b : Held) (l : List ℕ) → carriedOut (cond c (OnBox Passed) (OnBox Unread)) b l ≡ carriedOut (cond c (OnBox Passed) (OnBox Unread)) b []
-unfolding ordered onBox carriedOut
+unheard : (c : Bool) (b : Held) (l : List ℕ) → carried_out (cond c (OnBox Passed) (OnBox Unread)) b l ≡ carried_out (cond c (OnBox Passed) (OnBox Unread)) b []
+unfolding ordered on_box carried_out
 unheard true b l = refl
 unheard false b l = refl
 
-long_answered : (b : Held) (l : List ℕ) → 4096 < length l → answered b l ≡ carriedOut (long_order l) b []
+long_answered : (b : Held) (l : List ℕ) → 4096 < length l → answered b l ≡ carried_out (long_order l) b []
 unfolding answered
-long_answered b l h = ap (λ (o : Order). carriedOut o b l) (long_order_lem l h) ∙ unheard (eqb (get_or l 0 0) 0x23) b l
+long_answered b l h = ap (λ (o : Order). carried_out o b l) (long_order_lem l h) ∙ unheard (eqb (get_or l 0 0) 0x23) b l
 
 pub kept_answered : (b : Held) (line : List ℕ) → answered b (take 4097 line) ≡ answered b line
 kept_answered b line = go (leb (length line) 4097) refl
@@ -43,7 +43,7 @@ kept_answered b line = go (leb (length line) 4097) refl
         let h = leb-false (length line) 4097 e in
         let l : length (take 4097 line) ≡ 4097 = length-take-le 4097 line (omega (arith, h)) in
         long_answered b (take 4097 line) (omega (arith, l))
-        ∙ ap (λ (x : ℕ). carriedOut (cond (eqb x 0x23) (OnBox Passed) (OnBox Unread)) b []) (get_or-take 4097 line 0 0 (omega arith))
+        ∙ ap (λ (x : ℕ). carried_out (cond (eqb x 0x23) (OnBox Passed) (OnBox Unread)) b []) (get_or-take 4097 line 0 0 (omega arith))
         ∙ sym (long_answered b line (omega (arith, h)))
 
 -- two lines whose first 4,097 bytes are the same are answered alike

@@ -11,9 +11,9 @@ use borrow.Author.Tests.{eqb-true}
 use Rattle.script.specs.declared.Held.{Held}
 use Rattle.script_words.specs.Words.{before, line_of, to_first}
 use Rattle.script_lines.specs.Orders.{is_passed_over, order_of}
-use Rattle.script.specs.Answers.{at_start, LineEffect, onBox}
+use Rattle.script.specs.Answers.{at_start, LineEffect, on_box}
 use Rattle.script_orders.specs.Orders.{ordered}
-use Rattle.script.specs.Answers.{carriedOut, answered}
+use Rattle.script.specs.Answers.{carried_out, answered}
 use Rattle.script_run.specs.declared.Progress.{Progress}
 use Rattle.script_run.specs.Scripts.{lines_of, in_turn, script_done}
 use Rattle.script_run.specs.Pieces.{SoFar, at_call, further, Store, Runs}
@@ -31,7 +31,7 @@ line_cut (x ∷ a) b h = let (e, i) = first_byte x a h in rw e (ap (λ (t : List
 
 -- an empty line is passed over
 empty_answered : (b : Held) → answered b [] ≡ record { held = b; text = [] }
-unfolding answered carriedOut onBox ordered order_of is_passed_over
+unfolding answered carried_out on_box ordered order_of is_passed_over
 empty_answered b = refl
 
 -- a line in front of its 0Ah, and one that lacks it

@@ -6,7 +6,7 @@ use mathlib.Core.List.{List, [], ◌∷◌, ◌++◌, map}
 use lib.IntN.{ℤ, pos, negsuc}
 use lib.ListN.{length, get_or, take, drop, replicate}
 use Rattle.laws.specs.Bytes.{ascii}
-use Rattle.terms.specs.Answers.{number_of, answerPlace}
+use Rattle.terms.specs.Answers.{number_of, answer_place}
 use Rattle.settings.specs.Table.{flip_place}
 use Rattle.panels.specs.Records.{family_w, family_k}
 use Rattle.configure.specs.Configure.{configured}
@@ -49,7 +49,7 @@ pub record Seen : Type 0 where
   pub values : List ℤ
 
 abbrev sight : (DisplayBox → List ℤ) → Outcome → Seen
-sight looks o = record { answer = number_of o.answer; place = answerPlace o.answer; len = o.back.len; area = o.back.area; values = looks o.box }
+sight looks o = record { answer = number_of o.answer; place = answer_place o.answer; len = o.back.len; area = o.back.area; values = looks o.box }
 
 -- what the step gives
 abbrev pub seen : Row → Seen

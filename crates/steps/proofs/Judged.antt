@@ -8,7 +8,7 @@ use lib.ListN.{length, get_or, drop}
 use Rattle.laws.specs.Bytes.{ascii, part, same}
 use Rattle.laws.specs.Lists.{every}
 use Rattle.laws.proofs.Conditions.{choose, false_true}
-use Rattle.terms.specs.Answers.{partNumber, number_of}
+use Rattle.terms.specs.Answers.{part_number, number_of}
 use Rattle.terms.specs.declared.Part.TheVariants.{Request, Item, TooLong, NotMatching, Count, Checksum}
 use Rattle.terms.specs.declared.Envelope.TheVariants.{Good, Wrong}
 use Rattle.terms.specs.declared.Answer.TheVariants.{WrongLength, NotForUs}
@@ -78,7 +78,7 @@ serial_conditions m =
 
 abbrev serial_number : serialHeard.Heard → ℕ
 serial_number (serialIs.Refused a) = number_of a
-serial_number (serialIs.Broken s p) = partNumber p
+serial_number (serialIs.Broken s p) = part_number p
 serial_number (serialIs.NotUnderstood s) = 6
 serial_number (serialIs.Understood s o) = 0
 

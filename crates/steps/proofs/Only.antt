@@ -10,7 +10,7 @@ use lib.ListN.{length, get_or}
 use borrow.Author.Tests.{eqb-true, eqb-false, eq-eqb, ltb-true, ltb-false, not-true, not-false, ne_eqb}
 use Rattle.laws.specs.Lists.{listed}
 use Rattle.laws.proofs.Conditions.{and_first, and_second, false_true}
-use Rattle.terms.specs.Answers.{partNumber, number_of}
+use Rattle.terms.specs.Answers.{part_number, number_of}
 use Rattle.terms.specs.declared.Part.{Part}
 use Rattle.terms.specs.declared.Part.TheVariants.{Request, Item, TooLong, NotMatching, Count, Checksum}
 use Rattle.terms.specs.declared.Envelope.TheVariants.{Good}
@@ -336,7 +336,7 @@ module _ (b : DisplayBox) where
 
 -- ---- a part's number among the checks
 
-check_of : (p : Part) → (k : ℕ) × (4 ≤ k) × (k < length checks) × (get_or checks k 0 ≡ partNumber p)
+check_of : (p : Part) → (k : ℕ) × (4 ≤ k) × (k < length checks) × (get_or checks k 0 ≡ part_number p)
 check_of Request = (4, omega arith, omega arith, refl)
 check_of Item = (5, omega arith, omega arith, refl)
 check_of TooLong = (6, omega arith, omega arith, refl)

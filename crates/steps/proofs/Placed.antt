@@ -5,7 +5,7 @@ use mathlib.Core.Path.{◌≡◌, refl}
 use mathlib.Core.List.{List, [], ◌∷◌}
 use native.Mathlib.Omega.{arith}
 use lib.ListN.{length, get_or}
-use Rattle.terms.specs.Answers.{partPlace, number_of, answerPlace}
+use Rattle.terms.specs.Answers.{part_place, number_of, answer_place}
 use Rattle.terms.specs.declared.Part.{Part}
 use Rattle.terms.specs.declared.Part.TheVariants.{Request, Item, TooLong, NotMatching, Count, Checksum}
 use Rattle.terms.specs.declared.Answer.{Answer}
@@ -36,7 +36,7 @@ sum_place (kjw l m area) place w = absurd w
 sum_place (tcp l m area) place w = absurd w
 sum_place (udp m) place w = absurd w
 
-places : (x : Message) (a : Answer) → Told x a → answerPlace a ≡ get_or (places_in (length (bytes_in x))) (number_of a) 0
+places : (x : Message) (a : Answer) → Told x a → answer_place a ≡ get_or (places_in (length (bytes_in x))) (number_of a) 0
 places x Done t = refl
 places x AreaTooSmall t = refl
 places x NoSuchPanel t = refl
@@ -54,13 +54,13 @@ places x (PartWrong Count) t = refl
 places x (PartWrong (Checksum place)) t = sum_place x place t
 
 -- of every box and every message: number and length fix the place
-pub placed : (b : DisplayBox) (x : Message) → answerPlace (step b x).answer ≡ get_or (places_in (length (bytes_in x))) (number_of (step b x).answer) 0
+pub placed : (b : DisplayBox) (x : Message) → answer_place (step b x).answer ≡ get_or (places_in (length (bytes_in x))) (number_of (step b x).answer) 0
 placed b x = places x (step b x).answer (told b x)
 
 -- ---- and it lies in the message
 
 -- the parts of a packet of 13 bytes or more, and those of a frame of 6 or more
-packet_inside : (m : List ℕ) (p : Part) → 13 ≤ length m → packetEnvelopes.FirstWrong m p → partPlace p ≤ length m - 1
+packet_inside : (m : List ℕ) (p : Part) → 13 ≤ length m → packetEnvelopes.FirstWrong m p → part_place p ≤ length m - 1
 packet_inside m Request h w = omega (arith, h)
 packet_inside m Item h w = omega (arith, h)
 packet_inside m TooLong h w = omega (arith, h)
@@ -68,7 +68,7 @@ packet_inside m NotMatching h w = omega (arith, h)
 packet_inside m Count h w = absurd w
 packet_inside m (Checksum place) h w = absurd w
 
-serial_inside : (m : List ℕ) (p : Part) → 6 ≤ length m → serialEnvelopes.FirstWrong m p → partPlace p ≤ length m - 1
+serial_inside : (m : List ℕ) (p : Part) → 6 ≤ length m → serialEnvelopes.FirstWrong m p → part_place p ≤ length m - 1
 serial_inside m Request h w = absurd w
 serial_inside m Item h w = absurd w
 serial_inside m TooLong h w = absurd w
@@ -76,16 +76,16 @@ serial_inside m NotMatching h w = absurd w
 serial_inside m Count h w = omega (arith, h)
 serial_inside m (Checksum place) h w = let e = w.2 in omega (arith, e)
 
-part_inside : (x : Message) (p : Part) → (BadLength x → ⊥) → Broken x p → partPlace p ≤ length (bytes_in x) - 1
+part_inside : (x : Message) (p : Part) → (BadLength x → ⊥) → Broken x p → part_place p ≤ length (bytes_in x) - 1
 part_inside (rs232c l m area) p n w = serial_inside m p (omega (arith, n)) w
 part_inside (kjw l m area) p n w = absurd w
 part_inside (tcp l m area) p n w = packet_inside m p (omega (arith, n)) w
 part_inside (udp m) p n w = packet_inside m p (omega (arith, n)) w
 
-pub inside : (b : DisplayBox) (x : Message) → answerPlace (step b x).answer ≤ length (bytes_in x) - 1
+pub inside : (b : DisplayBox) (x : Message) → answer_place (step b x).answer ≤ length (bytes_in x) - 1
 inside b x = go (step b x).answer refl
   where
-    go : (a : Answer) → (step b x).answer ≡ a → answerPlace a ≤ length (bytes_in x) - 1
+    go : (a : Answer) → (step b x).answer ≡ a → answer_place a ≤ length (bytes_in x) - 1
     go Done e = omega arith
     go AreaTooSmall e = omega arith
     go NoSuchPanel e = omega arith

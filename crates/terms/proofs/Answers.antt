@@ -8,7 +8,7 @@ use mathlib.Core.List.{List, [], ◌∷◌}
 use lib.ListN.{get_or}
 use lib.Dec.{T, eqb, ltb}
 use borrow.Author.Tests.{eqb-true, lt-ltb, ltb-true}
-use Rattle.terms.specs.Answers.{partNumber, number_of, answerPlace}
+use Rattle.terms.specs.Answers.{part_number, number_of, answer_place}
 use Rattle.terms.specs.declared.Part.{Part}
 use Rattle.terms.specs.declared.Part.TheVariants.{Request, Item, TooLong, NotMatching, Count, Checksum}
 use Rattle.terms.specs.declared.Answer.{Answer}
@@ -23,7 +23,7 @@ answers place =
 answer_of : ℕ → ℕ → Answer
 answer_of n place = get_or (answers place) n Done
 
-back : (a : Answer) → answer_of (number_of a) (answerPlace a) ≡ a
+back : (a : Answer) → answer_of (number_of a) (answer_place a) ≡ a
 unfolding answer_of
 back Done = refl
 back AreaTooSmall = refl
@@ -42,8 +42,8 @@ back (PartWrong Count) = refl
 back (PartWrong (Checksum place)) = refl
 
 -- number and place tell the answer
-pub told-tells : (a b : Answer) → number_of a ≡ number_of b → answerPlace a ≡ answerPlace b → a ≡ b
-told-tells a b e f = sym (back a) ∙ ap (λ (n : ℕ). answer_of n (answerPlace a)) e ∙ ap (answer_of (number_of b)) f ∙ back b
+pub told-tells : (a b : Answer) → number_of a ≡ number_of b → answer_place a ≡ answer_place b → a ≡ b
+told-tells a b e f = sym (back a) ∙ ap (λ (n : ℕ). answer_of n (answer_place a)) e ∙ ap (answer_of (number_of b)) f ∙ back b
 
 -- f says yes of each of them
 abbrev pub all : (Answer → Bool) → List Answer → Bool
@@ -62,14 +62,14 @@ at_each f (a ∷ l) (suc n) d e h = at_each f l n d (both (f a) (all f l) e).1 h
 -- one computed test says it of every answer
 pub every-answer : (f : Answer → Bool) → ((place : ℕ) → all f (answers place) ≡ true) → (a : Answer) → f a ≡ true
 unfolding answer_of
-every-answer f e a = sym (ap f (back a)) ∙ at_each f (answers (answerPlace a)) (number_of a) Done (e (answerPlace a)) (both (f Done) _ (e 0)).0
+every-answer f e a = sym (ap f (back a)) ∙ at_each f (answers (answer_place a)) (number_of a) Done (e (answer_place a)) (both (f Done) _ (e 0)).0
 
 -- the numbers are those from 0 on, one for each
 pub number_small : (a : Answer) → number_of a < 15
 number_small a = ltb-true (number_of a) 15 (every-answer (λ (x : Answer). ltb (number_of x) 15) (λ place. refl) a)
 
 -- those of a wrong part are 9 and more
-pub part-late : (p : Part) → 9 ≤ partNumber p
+pub part-late : (p : Part) → 9 ≤ part_number p
 part-late Request = omega arith
 part-late Item = omega arith
 part-late TooLong = omega arith
@@ -78,10 +78,10 @@ part-late Count = omega arith
 part-late (Checksum place) = omega arith
 
 -- "other answers have place 0": those whose number is under 9
-pub place_none : (a : Answer) → number_of a < 9 → answerPlace a ≡ 0
+pub place_none : (a : Answer) → number_of a < 9 → answer_place a ≡ 0
 place_none a h =
-    eqb-true (answerPlace a) 0
-    (ap (λ (t : Bool). not t || eqb (answerPlace a) 0) (sym (lt-ltb (number_of a) 9 h)) ∙ every-answer (λ (x : Answer). not (ltb (number_of x) 9) || eqb (answerPlace x) 0) (λ place. refl) a)
+    eqb-true (answer_place a) 0
+    (ap (λ (t : Bool). not t || eqb (answer_place a) 0) (sym (lt-ltb (number_of a) 9 h)) ∙ every-answer (λ (x : Answer). not (ltb (number_of x) 9) || eqb (answer_place x) 0) (λ place. refl) a)
 
 -- a number under 9 tells the answer alone
 pub number_tells : (a b : Answer) → number_of b < 9 → number_of a ≡ number_of b → a ≡ b

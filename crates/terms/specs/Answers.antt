@@ -6,22 +6,22 @@ use Rattle.terms.specs.declared.Answer.{Answer}
 use Rattle.terms.specs.declared.Answer.TheVariants.{Done, AreaTooSmall, NoSuchPanel, WrongLength, NotForUs, EnvelopeWrong, NotUnderstood, BadConfiguration, StatusByBroadcast, PartWrong}
 
 -- Document 02, §8: "9 request, 10 item, 11 over 499, 12 not matching, 13 byte count, 14 checksum"
-abbrev pub partNumber : Part → ℕ
-partNumber Request = 9
-partNumber Item = 10
-partNumber TooLong = 11
-partNumber NotMatching = 12
-partNumber Count = 13
-partNumber (Checksum place) = 14
+abbrev pub part_number : Part → ℕ
+part_number Request = 9
+part_number Item = 10
+part_number TooLong = 11
+part_number NotMatching = 12
+part_number Count = 13
+part_number (Checksum place) = 14
 
 -- "With each goes the place of the first byte of the guilty field": the checksum stands last in its frame, wherever that is
-abbrev pub partPlace : Part → ℕ
-partPlace Request = 8
-partPlace Item = 9
-partPlace TooLong = 11
-partPlace NotMatching = 11
-partPlace Count = 1
-partPlace (Checksum place) = place
+abbrev pub part_place : Part → ℕ
+part_place Request = 8
+part_place Item = 9
+part_place TooLong = 11
+part_place NotMatching = 11
+part_place Count = 1
+part_place (Checksum place) = place
 
 abbrev pub number_of : Answer → ℕ
 number_of Done = 0
@@ -33,17 +33,17 @@ number_of EnvelopeWrong = 5
 number_of NotUnderstood = 6
 number_of BadConfiguration = 7
 number_of StatusByBroadcast = 8
-number_of (PartWrong p) = partNumber p
+number_of (PartWrong p) = part_number p
 
 -- "other answers have place 0"
-abbrev pub answerPlace : Answer → ℕ
-answerPlace Done = 0
-answerPlace AreaTooSmall = 0
-answerPlace NoSuchPanel = 0
-answerPlace WrongLength = 0
-answerPlace NotForUs = 0
-answerPlace EnvelopeWrong = 0
-answerPlace NotUnderstood = 0
-answerPlace BadConfiguration = 0
-answerPlace StatusByBroadcast = 0
-answerPlace (PartWrong p) = partPlace p
+abbrev pub answer_place : Answer → ℕ
+answer_place Done = 0
+answer_place AreaTooSmall = 0
+answer_place NoSuchPanel = 0
+answer_place WrongLength = 0
+answer_place NotForUs = 0
+answer_place EnvelopeWrong = 0
+answer_place NotUnderstood = 0
+answer_place BadConfiguration = 0
+answer_place StatusByBroadcast = 0
+answer_place (PartWrong p) = part_place p

@@ -2,7 +2,7 @@
 #![tactic(auto)]
 
 ghost use Rattle.std.specs.Prelude.{◌≡◌, eqb};
-ghost use Rattle.terms.specs.Answers.{partNumber, partPlace, number_of, answerPlace};
+ghost use Rattle.terms.specs.Answers.{part_number, part_place, number_of, answer_place};
 
 // The part of a message's envelope that is wrong (document 02, §8).
 #[derive(Clone, Copy)]
@@ -55,7 +55,7 @@ pub enum Answer {
 
 // The number of a part that is wrong.
 fn part_number(p: Part) -> u8
-    ensures { result ≡ partNumber p }
+    ensures { result ≡ part_number p }
 {
     match p {
         Part::Request => 9,
@@ -69,7 +69,7 @@ fn part_number(p: Part) -> u8
 
 // Where the part begins in the message, counted from 0.
 fn part_place(p: Part) -> u16
-    ensures { result ≡ partPlace p }
+    ensures { result ≡ part_place p }
 {
     match p {
         Part::Request => 8,
@@ -101,7 +101,7 @@ pub fn answer_number(a: Answer) -> u8
 
 // The place that goes with the answer: 0 but for a wrong part.
 pub fn answer_place(a: Answer) -> u16
-    ensures { result ≡ answerPlace a }
+    ensures { result ≡ answer_place a }
 {
     match a {
         Answer::Done => 0,

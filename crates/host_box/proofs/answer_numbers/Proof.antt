@@ -6,7 +6,7 @@ use native.Mathlib.Omega.{arith}
 use lib.Dec.{eqb}
 use borrow.Author.Rules.{rules}
 use borrow.Author.Tests.{eqb-true}
-use Rattle.terms.specs.Answers.{number_of, answerPlace}
+use Rattle.terms.specs.Answers.{number_of, answer_place}
 use Rattle.terms.specs.declared.Answer.{Answer}
 use Rattle.terms.proofs.Answers.{place_none}
 use Rattle.host_box.specs.declared.AnswerNumbers.{AnswerNumbers}
@@ -16,11 +16,11 @@ use Rattle.host_box.proofs.answer_numbers.Tie as tie
 abbrev both : ℕ → ℕ → AnswerNumbers
 both n place = record { number = n; place = place }
 
-done : (a : Answer) (d : Bool) → d ≡ eqb (number_of a) 0 → d ≡ true → both 0 0 ≡ both (number_of a) (answerPlace a)
+done : (a : Answer) (d : Bool) → d ≡ eqb (number_of a) 0 → d ≡ true → both 0 0 ≡ both (number_of a) (answer_place a)
 done a d e t =
     let z : number_of a ≡ 0 = eqb-true (number_of a) 0 (sym e ∙ t) in
-    let p : answerPlace a ≡ 0 = place_none a (omega (arith, z)) in
-    sym (ap (λ (n : ℕ). both n (answerPlace a)) z ∙ ap (both 0) p)
+    let p : answer_place a ≡ 0 = place_none a (omega (arith, z)) in
+    sym (ap (λ (n : ℕ). both n (answer_place a)) z ∙ ap (both 0) p)
 
 returns : tie.Need-returns
 returns c = let s = c.before in done s.args.answer s.args.done s.requires c.if1.true

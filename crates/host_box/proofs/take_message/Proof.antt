@@ -5,7 +5,7 @@ use mathlib.Core.Bool.{Bool, false}
 use mathlib.Core.List.{List}
 use lib.Dec.{eqb}
 use borrow.Author.Rules.{rules}
-use Rattle.terms.specs.Answers.{number_of, answerPlace}
+use Rattle.terms.specs.Answers.{number_of, answer_place}
 use Rattle.panels.specs.declared.DisplayBox.{DisplayBox}
 use Rattle.ways_in.specs.Promise.{Came, outcome_of, came_by}
 use Rattle.ways_in.specs.declared.Way.{Way}
@@ -28,7 +28,7 @@ abbrev told : DisplayBox → ℕ → Bool → AnswerNumbers → Outcome
 told b len done n = record { after = b; answer = n.number; place = n.place; len = len; done = done }
 
 abbrev in-numbers : Held → Outcome
-in-numbers t = told t.after t.len t.done (record { number = number_of t.answer; place = answerPlace t.answer })
+in-numbers t = told t.after t.len t.done (record { number = number_of t.answer; place = answer_place t.answer })
 
 through : (b : DisplayBox) (n link : ℕ) (m area : List ℕ) (e : Entry) (w : Way) (t : Held) (area' : List ℕ) (r : Outcome) → e ≡ way_of n → e ≡ Through w → (t ≡ outcome_of (came_by w b link m area)) × (area' ≡ (came_by w b link m area).area) → r ≡ in-numbers t → (r ≡ numbers_of (called b n link m area)) × (area' ≡ (called b n link m area).area)
 through b n link m area e w t area' r p q s k =

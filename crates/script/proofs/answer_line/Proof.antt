@@ -5,16 +5,16 @@ use Prim.Native.Nat.{ℕ}
 use mathlib.Core.List.{List}
 use Rattle.script_lines.specs.Orders.{order_of}
 use Rattle.script_lines.specs.declared.Order.{Order}
-use Rattle.script.specs.Answers.{Leaves, carriedOut, answered}
+use Rattle.script.specs.Answers.{Leaves, carried_out, answered}
 use Rattle.script.specs.declared.Held.{Held}
 use Rattle.script.specs.declared.Left.{Left}
 use Rattle.script.proofs.answer_line.Statement.{statement}
 use Rattle.script.proofs.answer_line.Tie as tie
 
 -- what the order of a line does is what the line does
-by_order : (s : Held) (line : List ℕ) {o : Order} {area area' : List ℕ} {r : Left} → order_of line ≡ o → Leaves (carriedOut o s line) r area area' → Leaves (answered s line) r area area'
+by_order : (s : Held) (line : List ℕ) {o : Order} {area area' : List ℕ} {r : Left} → order_of line ≡ o → Leaves (carried_out o s line) r area area' → Leaves (answered s line) r area area'
 unfolding answered
-by_order s line {o} {area} {area'} {r} e h = subst (λ (x : Order). Leaves (carriedOut x s line) r area area') (sym e) h
+by_order s line {o} {area} {area'} {r} e h = subst (λ (x : Order). Leaves (carried_out x s line) r area area') (sym e) h
 
 order-of-requires : tie.Need-order-of-requires
 order-of-requires c κs = search rules
@@ -35,7 +35,7 @@ same_length : tie.Need-same-length
 same_length c = search rules
 
 returns : tie.Need-returns
-unfolding carriedOut
+unfolding carried_out
 returns c =
     let o = c.before.before.before.before.before.before.before in
     let a = o.before.before.before.args in
@@ -45,7 +45,7 @@ same-length-2 : tie.Need-same-length-2
 same-length-2 c = search rules
 
 returns-2 : tie.Need-returns-2
-unfolding carriedOut
+unfolding carried_out
 returns-2 c =
     let o = c.before.before.before.before.before.before in
     let a = o.before.before.before.args in

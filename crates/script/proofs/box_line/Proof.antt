@@ -2,7 +2,7 @@
 use borrow.Author.Rules.{rules}
 use mathlib.Core.Path.{ap}
 use Rattle.panels.specs.declared.DisplayBox.{DisplayBox}
-use Rattle.script.specs.Answers.{onBox}
+use Rattle.script.specs.Answers.{on_box}
 use Rattle.script.proofs.box_line.Statement.{statement}
 use Rattle.script.proofs.box_line.Tie as tie
 
@@ -13,7 +13,7 @@ same_length : tie.Need-same-length
 same_length c = search rules
 
 returns : tie.Need-returns
-unfolding onBox
+unfolding on_box
 returns c =
     let o = c.before.before.before.answer-order.ensures in
     let s = c.before.before.before.before.before.before.before.before.before.args.s in

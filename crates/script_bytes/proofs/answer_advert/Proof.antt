@@ -7,7 +7,7 @@ use Rattle.sdap.specs.declared.Read.{Read}
 use Rattle.script_fields.specs.Fields.{advert_text}
 use Rattle.script_text.proofs.Puts.{puts_then}
 use Rattle.sdap.specs.Rules.{read_of}
-use Rattle.script_answers.specs.Answers.{Answers, Effect, writes, answerText}
+use Rattle.script_answers.specs.Answers.{Answers, Effect, writes, answer_text}
 use Rattle.script_bytes.specs.Bytes.{read_text}
 use Rattle.script_write.proofs.Lent.{front, front_length, front_fits}
 use borrow.Author.Rules.{rules}
@@ -15,7 +15,7 @@ use Rattle.script_bytes.proofs.answer_advert.Statement.{statement}
 use Rattle.script_bytes.proofs.answer_advert.Tie as tie
 
 -- the reader's answer decides what is written of it
-read-refused : (b : DisplayBox) (r : Read) → (number_of r.answer ≡ 0 → ⊥) → writes b (answerText r.answer) ≡ writes b (read_text r)
+read-refused : (b : DisplayBox) (r : Read) → (number_of r.answer ≡ 0 → ⊥) → writes b (answer_text r.answer) ≡ writes b (read_text r)
 unfolding read_text
 read-refused b r h = ap (writes b) (sym (rw (ne_eqb (number_of r.answer) 0 h)))
 

@@ -5,7 +5,7 @@ use native.Mathlib.Omega.{arith}
 use lib.Dec.{eqb}
 use borrow.Author.Rules.{rules}
 use borrow.Author.Tests.{ne_eqb}
-use Rattle.terms.specs.Answers.{partNumber, number_of}
+use Rattle.terms.specs.Answers.{part_number, number_of}
 use Rattle.terms.specs.declared.Part.{Part}
 use Rattle.terms.specs.declared.Answer.{Answer}
 use Rattle.terms.specs.declared.Answer.TheVariants.{PartWrong}
@@ -19,7 +19,7 @@ told a x e = ap (λ (y : Answer). eqb (number_of y) 0) (sym e)
 
 -- no part has the number 0
 part-undone : (p : Part) → false ≡ eqb (number_of (PartWrong p)) 0
-part-undone p = let n = part-late p in sym (ne_eqb (partNumber p) 0 (λ z. omega (arith, n, z)))
+part-undone p = let n = part-late p in sym (ne_eqb (part_number p) 0 (λ z. omega (arith, n, z)))
 
 enum_told : tie.Need-enum-told
 enum_told c = search rules

@@ -9,7 +9,7 @@ use native.Mathlib.Omega.{arith}
 use borrow.Author.Rules.{rules}
 use Rattle.panels.specs.declared.Panel.{Panel}
 use Rattle.panels.specs.declared.DisplayBox.{DisplayBox}
-use Rattle.terms.specs.Answers.{partNumber, number_of}
+use Rattle.terms.specs.Answers.{part_number, number_of}
 use Rattle.terms.specs.declared.Answer.{Answer}
 use Rattle.terms.proofs.Answers.{part-late}
 use Rattle.steps.specs.Messages.{udp, names}
@@ -77,7 +77,7 @@ refused-requires-3 : tie.Need-refused-requires-3
 refused-requires-3 c κs =
     let p = c.before.part.given.0.0 in
     let n = part-late p in
-    ne_eqb (partNumber p) 0 (λ z. omega (arith, n, z))
+    ne_eqb (part_number p) 0 (λ z. omega (arith, n, z))
 
 enum_told : tie.Need-enum-told
 enum_told c = search rules
