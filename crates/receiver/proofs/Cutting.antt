@@ -11,17 +11,17 @@ use Rattle.receiver.specs.Pieces.Feeds.{last, more}
 use Rattle.receiver.specs.Pieces.Cuts.{one, more as further}
 use Rattle.receiver.proofs.Reading.{ReadAs, one_reading, read_on}
 use Rattle.receiver.proofs.Reading.ReadAs.{rest, next}
-use Rattle.receiver.proofs.Calls.{by_call_holds, some_length, some_bytes, held_all, searches_on, after_holds}
+use Rattle.receiver.proofs.Calls.{by_call_lem, some_length, some_bytes, held_all, searches_on, after_holds}
 use Rattle.receiver.proofs.Pieces.{fed_feeds, fed_is}
 
 -- ---- a call reads the stream
 
 module _ (r : Receiver) (p : List ℕ) where
   reads_last : (given r p).packet ≡ [] → ReadAs (held_in r ++ p) [] (held_in (given r p).after)
-  reads_last = by_call_holds r p (λ g. g.packet ≡ [] → ReadAs (held_in r ++ p) [] (held_in g.after)) (λ e z. rest e (sym (held_all r p e))) (λ n e z. absurd (some_bytes r p n e z))
+  reads_last = by_call_lem r p (λ g. g.packet ≡ [] → ReadAs (held_in r ++ p) [] (held_in g.after)) (λ e z. rest e (sym (held_all r p e))) (λ n e z. absurd (some_bytes r p n e z))
 
   reads_more : (os : List (List ℕ)) (t : List ℕ) → ((given r p).packet ≡ [] → ⊥) → ReadAs (held_in (given r p).after ++ drop (given r p).taken p) os t → ReadAs (held_in r ++ p) ((given r p).packet ∷ os) t
-  reads_more os t = by_call_holds r p
+  reads_more os t = by_call_lem r p
       (λ g. held_in g.after ++ drop g.taken p ≡ drop (length g.packet) (sought (held_in r ++ p)) → (g.packet ≡ [] → ⊥)
       → ReadAs (held_in g.after ++ drop g.taken p) os t → ReadAs (held_in r ++ p) (g.packet ∷ os) t)
       (λ e s n a. absurd (n refl))
