@@ -61,18 +61,26 @@ four (x ∷ y ∷ z ∷ []) e = absurd (omega arith)
 four (x ∷ y ∷ z ∷ w ∷ []) e = refl
 four (x ∷ y ∷ z ∷ w ∷ v ∷ l) e = absurd (omega arith)
 
-regroup : (f p s w l c i j k m e r n t : List ℕ) → (((((f ++ p) ++ s) ++ w) ++ l) ++ ((((c ++ i) ++ j) ++ k) ++ m)) ++ (((e ++ r) ++ n) ++ t) ≡ f ++ (p ++ (s ++ (w ++ (l ++ (c ++ (i ++ (j ++ (k ++ (m ++ (e ++ (r ++ (n ++ t))))))))))))
+regroup : (f p s w l c i j k m e r n t : List ℕ)
+    → (((((f ++ p) ++ s) ++ w) ++ l) ++ ((((c ++ i) ++ j) ++ k) ++ m)) ++ (((e ++ r) ++ n) ++ t)
+    ≡ f ++ (p ++ (s ++ (w ++ (l ++ (c ++ (i ++ (j ++ (k ++ (m ++ (e ++ (r ++ (n ++ t))))))))))))
 regroup f p s w l c i j k m e r n t = simp append_assoc
 
 -- an advert is its fields
-made : (l : List ℕ) (a : Advert) → get_or l 3 0 ≡ a.category → part 8 12 l ≡ a.product → number (part 20 4 l) ≡ a.serial → number (part 24 2 l) ≡ a.power → part 26 24 l ≡ a.location → number (part 50 4 l) ≡ a.connected → number (part 54 4 l) ∷ number (part 58 4 l) ∷ number (part 62 4 l) ∷ number (part 66 4 l) ∷ [] ≡ a.accepted → number (part 70 2 l) ≡ a.error → part 72 24 l ≡ a.region → part 96 24 l ≡ a.name → get_or l 120 0 ≡ a.group.0 → get_or l 121 0 ≡ a.unit.0 → fields_of l ≡ a
+made : (l : List ℕ) (a : Advert) → get_or l 3 0 ≡ a.category → part 8 12 l ≡ a.product → number (part 20 4 l) ≡ a.serial → number (part 24 2 l) ≡ a.power
+    → part 26 24 l ≡ a.location → number (part 50 4 l) ≡ a.connected
+    → number (part 54 4 l) ∷ number (part 58 4 l) ∷ number (part 62 4 l) ∷ number (part 66 4 l) ∷ [] ≡ a.accepted → number (part 70 2 l) ≡ a.error
+    → part 72 24 l ≡ a.region → part 96 24 l ≡ a.name → get_or l 120 0 ≡ a.group.0 → get_or l 121 0 ≡ a.unit.0 → fields_of l ≡ a
 unfolding fields_of
 made l a h0 h1 h2 h3 h4 h5 h6 h7 h8 h9 h10 h11 = rw (h0, h1, h2, h3, h4, h5, h6, h7, h8, h9, h10, h11)
 
 -- the bytes of an advert, its fixed front first
-opened : (a : Advert) → bytes_of a ≡ (68 ∷ 65 ∷ 4 ∷ a.category ∷ 83 ∷ 79 ∷ 78 ∷ 89 ∷ []) ++ (a.product ++ (in_bytes 4 a.serial ++ (in_bytes 2 a.power ++ (a.location ++ (in_bytes 4 a.connected ++ (in_bytes 4 (get_or a.accepted 0 0) ++ (in_bytes 4 (get_or a.accepted 1 0) ++ (in_bytes 4 (get_or a.accepted 2 0) ++ (in_bytes 4 (get_or a.accepted 3 0) ++ (in_bytes 2 a.error ++ (a.region ++ (a.name ++ (a.group.0 ∷ a.unit.0 ∷ [])))))))))))))
+opened : (a : Advert)
+    → bytes_of a
+    ≡ (68 ∷ 65 ∷ 4 ∷ a.category ∷ 83 ∷ 79 ∷ 78 ∷ 89 ∷ []) ++ (a.product ++ (in_bytes 4 a.serial ++ (in_bytes 2 a.power ++ (a.location ++ (in_bytes 4 a.connected ++ (in_bytes 4 (get_or a.accepted 0 0) ++ (in_bytes 4 (get_or a.accepted 1 0) ++ (in_bytes 4 (get_or a.accepted 2 0) ++ (in_bytes 4 (get_or a.accepted 3 0) ++ (in_bytes 2 a.error ++ (a.region ++ (a.name ++ (a.group.0 ∷ a.unit.0 ∷ [])))))))))))))
 unfolding bytes_of
-opened a = regroup (68 ∷ 65 ∷ 4 ∷ a.category ∷ 83 ∷ 79 ∷ 78 ∷ 89 ∷ []) a.product (in_bytes 4 a.serial) (in_bytes 2 a.power) a.location (in_bytes 4 a.connected) (in_bytes 4 (get_or a.accepted 0 0)) (in_bytes 4 (get_or a.accepted 1 0)) (in_bytes 4 (get_or a.accepted 2 0)) (in_bytes 4 (get_or a.accepted 3 0)) (in_bytes 2 a.error) a.region a.name (a.group.0 ∷ a.unit.0 ∷ [])
+opened a =
+    regroup (68 ∷ 65 ∷ 4 ∷ a.category ∷ 83 ∷ 79 ∷ 78 ∷ 89 ∷ []) a.product (in_bytes 4 a.serial) (in_bytes 2 a.power) a.location (in_bytes 4 a.connected) (in_bytes 4 (get_or a.accepted 0 0)) (in_bytes 4 (get_or a.accepted 1 0)) (in_bytes 4 (get_or a.accepted 2 0)) (in_bytes 4 (get_or a.accepted 3 0)) (in_bytes 2 a.error) a.region a.name (a.group.0 ∷ a.unit.0 ∷ [])
 
 module _ (a : Advert) (f : Fitting a) (s : Sized a.product a.location a.region a.name) where
   fields_back : fields_of (bytes_of a) ≡ a
@@ -102,7 +110,12 @@ module _ (a : Advert) (f : Fitting a) (s : Sized a.product a.location a.region a
       let p6 = peel_number {l = l} a.error r10 70 2 72 i4.after f.error_fits refl in
       let p7 = peel {l = l} a.region r11 72 24 96 p6.after s.region_ok refl in
       let p8 = peel {l = l} a.name r12 96 24 120 p7.after s.name_ok refl in
-      let ips : number (part 54 4 l) ∷ number (part 58 4 l) ∷ number (part 62 4 l) ∷ number (part 66 4 l) ∷ [] ≡ a.accepted = rw (i1.value, i2.value, i3.value, i4.value) (four a.accepted f.accepted_four) in
+      let ips : number (part 54 4 l) ∷ number (part 58 4 l) ∷ number (part 62 4 l) ∷ number (part 66 4 l) ∷ [] ≡ a.accepted = rw (
+        i1.value,
+        i2.value,
+        i3.value,
+        i4.value,
+      ) (four a.accepted f.accepted_four) in
       let at : (k : ℕ) → get_or l (120 + k) 0 ≡ get_or r12 k 0 = λ k. sym (get_or-drop 120 l k 0) ∙ ap (λ (x : List ℕ). get_or x k 0) p8.after in
       made l a (ap (λ (x : List ℕ). get_or x 3 0) (opened a)) p1.here p2.value p3.value p4.here p5.value ips p6.value p7.here p8.here (at 0) (at 1)
 
@@ -124,11 +137,13 @@ module _ (a : Advert) (f : Fitting a) (s : Sized a.product a.location a.region a
   answer_back = rw (eq-eqb _ _ bytes_long, front_back, fields_back)
 
 -- what the writer accepts reads back as the same fields: the front of the area, whatever stands behind it
-pub written_reads_back : (a : Advert) (area area' : List ℕ) (r : Answer) → Fitting a → Written a area r area' → number_of r ≡ 0 → read_of (take 122 area') ≡ record { answer = r; fields = a }
+pub written_reads_back : (a : Advert) (area area' : List ℕ) (r : Answer) → Fitting a → Written a area r area' → number_of r ≡ 0
+    → read_of (take 122 area') ≡ record { answer = r; fields = a }
 unfolding read_of
 written_reads_back a area area' r f w z =
     let ok = writable (length area) a (ap number_of (sym w.answer) ∙ z) in
-    let filled : area' ≡ sent (bytes_of a) area = w.area_after_holds ∙ rw (eq-eqb (number_of (write_answer (length area) a)) 0 (ap number_of (sym w.answer) ∙ z)) in
+    let filled : area' ≡ sent (bytes_of a) area = w.area_after_holds
+    ∙ rw (eq-eqb (number_of (write_answer (length area) a)) 0 (ap number_of (sym w.answer) ∙ z)) in
     let front : take 122 area' ≡ bytes_of a = ap (take 122) filled ∙ take_at (bytes_of a) (drop (length (bytes_of a)) area) 122 (bytes_long a f ok.sizes) in
     let answer : read_answer (bytes_of a) ≡ r = answer_back a f ok.sizes ∙ ok.fair ∙ sym w.answer in
     rw (front, answer, eq-eqb (number_of r) 0 z, fields_back a f ok.sizes)
@@ -163,7 +178,10 @@ module _ (l : List ℕ) (b : Bytes l) (ok : Readable l) where
       let i2 = part_join 50 8 4 58 l i1 (number_back 58 4 (lit≤ tt)) refl in
       let i3 = part_join 50 12 4 62 l i2 (number_back 62 4 (lit≤ tt)) refl in
       let i4 = part_join 50 16 4 66 l i3 (number_back 66 4 (lit≤ tt)) refl in
-      let ids : get_or l 120 0 ∷ get_or l 121 0 ∷ [] ≡ part 120 2 l = sym (rw (part_from 120 121 1 l (inside 120 1 (lit≤ tt)) refl, part_from 121 122 0 l (inside 121 1 (lit≤ tt)) refl)) in
+      let ids : get_or l 120 0 ∷ get_or l 121 0 ∷ [] ≡ part 120 2 l = sym (rw (
+        part_from 120 121 1 l (inside 120 1 (lit≤ tt)) refl,
+        part_from 121 122 0 l (inside 121 1 (lit≤ tt)) refl,
+      )) in
       let t1 = part_join 70 2 24 72 l (number_back 70 2 (lit≤ tt)) refl refl in
       let t2 = part_join 70 26 24 96 l t1 refl refl in
       let t3 = part_join 70 50 2 120 l t2 ids refl in
@@ -171,10 +189,17 @@ module _ (l : List ℕ) (b : Bytes l) (ok : Readable l) where
 
   sizes_back : is_sized (fields_of l).product (fields_of l).location (fields_of l).region (fields_of l).name ≡ true
   unfolding is_sized fields_of
-  sizes_back = rw (part_length 8 12 l (inside 8 12 (lit≤ tt)), part_length 26 24 l (inside 26 24 (lit≤ tt)), part_length 72 24 l (inside 72 24 (lit≤ tt)), part_length 96 24 l (inside 96 24 (lit≤ tt)))
+  sizes_back =
+      rw (
+        part_length 8 12 l (inside 8 12 (lit≤ tt)),
+        part_length 26 24 l (inside 26 24 (lit≤ tt)),
+        part_length 72 24 l (inside 72 24 (lit≤ tt)),
+        part_length 96 24 l (inside 96 24 (lit≤ tt)),
+      )
 
 -- what the reader accepts is written back as the same bytes: in any area that has room, with the old rest behind them
-pub read_writes_back : (l area area' : List ℕ) (r : Answer) → Bytes l → number_of (read_answer l) ≡ 0 → 122 ≤ length area → Written (read_of l).fields area r area' → (r ≡ read_answer l) × (area' ≡ sent l area)
+pub read_writes_back : (l area area' : List ℕ) (r : Answer) → Bytes l → number_of (read_answer l) ≡ 0 → 122 ≤ length area
+    → Written (read_of l).fields area r area' → (r ≡ read_answer l) × (area' ≡ sent l area)
 unfolding read_of write_verdict
 read_writes_back l area area' r b z room w =
     let ok = readable l z in

@@ -9,21 +9,21 @@ returns-then-not-is_text c = sym (rw (← c.is_text.ensures, c.if-not-is_text.tr
 
 pub returns-then-not-is_text-2 : goal.returns-then-not-is_text-2
 unfolding are_texts
-returns-then-not-is_text-2 c =
-    let a = c in
-    sym (rw (← a.is_text.ensures, c.if-not-is_text.false, ← c.is_text-2.ensures, c.if-not-is_text-2.true))
+returns-then-not-is_text-2 c = sym (rw (← c.is_text.ensures, c.if-not-is_text.false, ← c.is_text-2.ensures, c.if-not-is_text-2.true))
 
 pub returns-then-not-is_text-3 : goal.returns-then-not-is_text-3
 unfolding are_texts
 returns-then-not-is_text-3 c =
-    let b = c in
-    let a = b in
-    sym (rw (← a.is_text.ensures, b.if-not-is_text.false, ← b.is_text-2.ensures, c.if-not-is_text-2.false, ← c.is_text-3.ensures, c.if-not-is_text-3.true))
+    sym (rw (← c.is_text.ensures, c.if-not-is_text.false, ← c.is_text-2.ensures, c.if-not-is_text-2.false, ← c.is_text-3.ensures, c.if-not-is_text-3.true))
 
 pub returns : goal.returns
 unfolding are_texts
 returns c =
-    let d = c in
-    let b = d in
-    let a = b in
-    sym (rw (← a.is_text.ensures, b.if-not-is_text.false, ← b.is_text-2.ensures, d.if-not-is_text-2.false, ← d.is_text-3.ensures, c.if-not-is_text-3.false) (sym c.is_text-4.ensures))
+    sym (rw (
+      ← c.is_text.ensures,
+      c.if-not-is_text.false,
+      ← c.is_text-2.ensures,
+      c.if-not-is_text-2.false,
+      ← c.is_text-3.ensures,
+      c.if-not-is_text-3.false,
+    ) (sym c.is_text-4.ensures))

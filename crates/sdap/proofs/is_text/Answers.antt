@@ -8,6 +8,7 @@ use borrow.Author.Tests.{eqb-true, eqb-false, eq-eqb, ne_eqb}
 use native.Mathlib.Omega.{arith}
 use Rattle.laws.specs.Lists.{every}
 use Rattle.sdap.specs.Rules.{is_text}
+use Rattle.sdap.proofs.is_text.Invariants.{joined}
 use Rattle.sdap.proofs.is_text.Goals as goal
 
 joined-text : (l : List ℕ) → joined l ≡ is_text l
@@ -20,7 +21,8 @@ joined-text (x ∷ []) = one (eqb x 0)
     one false = refl
 joined-text (x ∷ y ∷ l) = more (eqb x 0) (eqb y 0) refl (joined-text (y ∷ l))
   where
-    more : (b d : Bool) → eqb y 0 ≡ d → joined (y ∷ l) ≡ cond (eqb y 0) (every (eqb 0) l) (is_text l) → (not (b && not (eqb y 0)) && joined (y ∷ l)) ≡ cond b (eqb 0 y && every (eqb 0) l) (cond (eqb y 0) (every (eqb 0) l) (is_text l))
+    more : (b d : Bool) → eqb y 0 ≡ d → joined (y ∷ l) ≡ cond (eqb y 0) (every (eqb 0) l) (is_text l)
+        → (not (b && not (eqb y 0)) && joined (y ∷ l)) ≡ cond b (eqb 0 y && every (eqb 0) l) (cond (eqb y 0) (every (eqb 0) l) (is_text l))
     more false d q e = e
     more true true q e = rw (eq-eqb 0 y (sym (eqb-true y 0 q)), q) (e ∙ rw q)
     more true false q e = rw (ne_eqb 0 y (λ z. eqb-false y 0 q (sym z)), q)
@@ -36,6 +38,5 @@ last t i h k = few (drop (i - 1) t) (simp length-drop (omega arith))
 
 pub returns : goal.returns
 returns c =
-    let l = c in
-    let t = l.args.t.now in
-    sym (sym (joined-text t) ∙ l.loop-i.invariant.1 ∙ rw (last t l.loop-i.i l.loop-i.invariant.0 (omega arith)) (and-true l.loop-i.ok))
+    let t = c.args.t.now in
+    sym (sym (joined-text t) ∙ c.loop-i.invariant.1 ∙ rw (last t c.loop-i.i c.loop-i.invariant.0 (omega arith)) (and-true c.loop-i.ok))

@@ -5,11 +5,10 @@ use mathlib.Core.Bool.{Bool, true, not, ◌&&◌}
 use mathlib.Core.List.{List, [], ◌∷◌}
 use lib.ListN.{length, drop}
 use lib.Dec.{eqb}
-use Rattle.laws.proofs.Lists.{behind}
 use Rattle.sdap.proofs.is_text.Given as goal
 
 -- no nonzero byte stands directly behind a 00h
-abbrev joined : List ℕ → Bool
+abbrev pub joined : List ℕ → Bool
 joined [] = true
 joined (x ∷ []) = true
 joined (x ∷ y ∷ l) = not (eqb x 0 && not (eqb y 0)) && joined (y ∷ l)

@@ -1,4 +1,4 @@
-use Prim.Native.Nat.{ℕ, suc, ◌+◌, ◌-◌, ◌<◌, ◌≤◌}
+use Prim.Native.Nat.{ℕ, suc, ◌+◌, ◌<◌, ◌≤◌}
 use mathlib.Core.Path.{◌≡◌, ap, ◌∙◌}
 use mathlib.Core.List.{List}
 use lib.ListN.{length, get_or, drop}
@@ -22,17 +22,12 @@ unfolding before_zero
 at_end t i h = ap text_length (behind t i h)
 
 pub returns-then-t-i-eq0 : goal.returns-then-t-i-eq0
-returns-then-t-i-eq0 c =
-    let l = c in
-    omega (arith, at_zero l.args.t.now l.loop-i.i c.loop-i-test.true c.if-t-i-eq0.true, l.loop-i.invariant.1)
+returns-then-t-i-eq0 c = omega (arith, at_zero c.args.t.now c.loop-i.i c.loop-i-test.true c.if-t-i-eq0.true, c.loop-i.invariant.1)
 
 pub loop-i-preserved : goal.loop-i-preserved
-loop-i-preserved c =
-    let l = c in
-    (search rules, omega (arith, at_other l.args.t.now l.loop-i.i c.loop-i-test.true c.if-t-i-eq0.false, l.loop-i.invariant.1))
+loop-i-preserved c = (search rules, omega (arith, at_other c.args.t.now c.loop-i.i c.loop-i-test.true c.if-t-i-eq0.false, c.loop-i.invariant.1))
 
 pub returns : goal.returns
 returns c =
-    let l = c in
-    let h : length l.args.t.now ≤ l.loop-i.i = omega arith in
-    omega (arith, at_end l.args.t.now l.loop-i.i h, l.loop-i.invariant.1)
+    let h : length c.args.t.now ≤ c.loop-i.i = omega arith in
+    omega (arith, at_end c.args.t.now c.loop-i.i h, c.loop-i.invariant.1)

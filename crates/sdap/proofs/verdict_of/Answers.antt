@@ -9,12 +9,8 @@ returns-then-not-is_category c = sym (rw (← c.is_category.ensures, c.if-not-is
 
 pub returns-then-not-is_filled : goal.returns-then-not-is_filled
 unfolding verdict
-returns-then-not-is_filled c =
-    let a = c in
-    sym (rw (← a.is_category.ensures, c.if-not-is_category.false, ← c.is_filled.ensures, c.if-not-is_filled.true))
+returns-then-not-is_filled c = sym (rw (← c.is_category.ensures, c.if-not-is_category.false, ← c.is_filled.ensures, c.if-not-is_filled.true))
 
 pub returns : goal.returns
 unfolding verdict
-returns c =
-    let a = c in
-    sym (rw (← a.is_category.ensures, c.if-not-is_category.false, ← c.is_filled.ensures, c.if-not-is_filled.false))
+returns c = sym (rw (← c.is_category.ensures, c.if-not-is_category.false, ← c.is_filled.ensures, c.if-not-is_filled.false))
