@@ -1,4 +1,5 @@
 -- `put_biases` puts the three biases one behind the other.
+use Rattle.std.proofs.Common.{rules}
 use Rattle.laws.specs.Bytes.{ascii}
 use Rattle.script_balance.specs.Balance.{biases_text}
 use Rattle.script_text.proofs.Puts.{puts_then}
@@ -7,4 +8,5 @@ use Rattle.script_balance.proofs.put_biases.Goals as goal
 
 pub returns : goal.returns
 unfolding biases_text
-returns c = puts_then (puts_then c.put_bias-a.ensures c.put_bias-b.ensures) c.put_bias.ensures
+returns c =
+    puts_then (puts_then (held_bias (ascii " BIAS ") (search rules) c.put_bias-a.ensures) (held_bias (ascii " ") (search rules) c.put_bias-b.ensures)) (held_bias (ascii " ") (search rules) c.put_bias.ensures)
