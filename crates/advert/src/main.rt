@@ -1,61 +1,74 @@
 // Reads all of standard input and prints the advert's product, serial, group and unit, or the one line `refused N`.
 #![tactic(auto)]
 
-use libc::{STDIN_FILENO, STDOUT_FILENO};
+ghost use Rattle.std.specs.Prelude.{◌≤◌, IfOk};
+
 use sdap::{Advert, text_length};
 use sdap_read::read_advert;
+use std::io;
+use std::io::{Read, Write};
 use terms::answer_number;
 
+// As much of an advert as the input begins with: an advert has 122 bytes, so the 123rd is all that need be known of a longer input.
+fn read_front(input: &mut impl Read, front: &mut [u8; 123]) -> io::Result<usize>
+    ensures { IfOk result (λ n. n ≤ 123) }
+{
+    let mut n = 0;
+    for _ in 0..123 {
+        let came = input.read(&mut front[n..])?;
+        if came == 0 {
+            break;
+        }
+        n += came;
+    }
+    Ok(n)
+}
+
 // Reads once, drops what came, and answers whether there may be more.
-fn drop_some() -> bool {
-    let mut rest = io::buffer();
-    libc::read(STDIN_FILENO, &mut rest) > 0
+fn drop_some(input: &mut impl Read) -> io::Result<bool> {
+    let mut rest = [0u8; 4096];
+    Ok(input.read(&mut rest)? > 0)
 }
 
 // Drops what is left of the input. A proved loop has to end, and nothing says that the input does: so the turns are
 // counted down from a number that no run uses up.
-fn drop_all() {
+fn drop_all(input: &mut impl Read) -> io::Result<()> {
     let mut turns = u64::MAX;
-    while turns > 0 && drop_some() {
+    while turns > 0 && drop_some(input)? {
         turns -= 1;
     }
+    Ok(())
 }
 
-fn print_line(word: &[u8], n: u64) {
-    io::write_all(STDOUT_FILENO, word);
-    io::print_decimal(STDOUT_FILENO, n);
-    io::write_all(STDOUT_FILENO, b"\n");
+fn print_line(out: &mut impl Write, word: &[u8], n: u64) -> io::Result<()> {
+    out.write_all(word)?;
+    writeln!(out, "{n}")
 }
 
-fn print_product(product: [u8; 12]) {
-    io::write_all(STDOUT_FILENO, b"product ");
+fn print_product(out: &mut impl Write, product: [u8; 12]) -> io::Result<()> {
+    out.write_all(b"product ")?;
     let n = text_length(&product);
-    io::write_all(STDOUT_FILENO, &product[..n]);
-    io::write_all(STDOUT_FILENO, b"\n");
+    out.write_all(&product[..n])?;
+    out.write_all(b"\n")
 }
 
-fn print_advert(a: Advert) {
-    let product = a.product;
-    print_product(product);
-    print_line(b"serial ", a.serial as u64);
-    let g = a.group;
-    print_line(b"group ", g.0 as u64);
-    let u = a.unit;
-    print_line(b"unit ", u.0 as u64);
+fn print_advert(out: &mut impl Write, a: Advert) -> io::Result<()> {
+    print_product(out, a.product)?;
+    print_line(out, b"serial ", a.serial as u64)?;
+    print_line(out, b"group ", a.group.0 as u64)?;
+    print_line(out, b"unit ", a.unit.0 as u64)
 }
 
-// An advert has 122 bytes, so the 123rd is all that need be known of a longer input.
-fn main() {
-    let mut input = [0u8; 123];
-    let n = io::read_full(STDIN_FILENO, &mut input);
-    drop_all();
-    let read = read_advert(&input[..n]);
-    let answer = read.answer;
-    let number = answer_number(answer);
+fn main(rt: HostRuntime) -> io::Result<()> {
+    let mut input = rt.stdin();
+    let mut out = rt.stdout();
+    let mut front = [0u8; 123];
+    let n = read_front(&mut input, &mut front)?;
+    drop_all(&mut input)?;
+    let read = read_advert(&front[..n]);
+    let number = answer_number(read.answer);
     if number != 0 {
-        print_line(b"refused ", number as u64);
-        return;
+        return print_line(&mut out, b"refused ", number as u64);
     }
-    let a = read.fields;
-    print_advert(a);
+    print_advert(&mut out, read.fields)
 }

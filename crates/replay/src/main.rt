@@ -1,16 +1,26 @@
 // Reads a script from standard input and writes what its lines answer (docs/SCRIPTS.md): what that is stands in `script_run`.
 #![tactic(auto)]
 
-ghost use Rattle.std.specs.Prelude.{ℕ, ◌≤◌, List, ◌++◌, length};
+ghost use Rattle.std.specs.Prelude.{ℕ, ◌≤◌, List, ◌++◌, length, take, OnOk, OnErr};
+ghost use Rattle.script.specs.declared.Held.{Held};
 ghost use Rattle.script_run.specs.Calls.{Reached};
 
-use libc::{STDIN_FILENO, STDOUT_FILENO};
 use script_run::{Progress, STORE, run_piece, start};
+use std::io;
+use std::io::{Read, Write};
 
-// A piece of the script is run to its end, and its text is written each time that the area has no more room.
-fn take_piece(p: Progress, piece: &[u8], store: &mut [u8; STORE], area: &mut [u8]) -> Progress
+// A piece of the script is run to its end, and its text is written each time that the area has no more room. Where the text cannot be
+// written, the store is what calls on the script as far as it was taken leave.
+fn take_piece(
+    out: &mut impl Write,
+    p: Progress,
+    piece: &[u8],
+    store: &mut [u8; STORE],
+    area: &mut [u8],
+) -> io::Result<Progress>
     requires { ((bytes : List ℕ) × Reached bytes p.held store.old p.kept) × (24576 ≤ length area.old) }
-    ensures { (bytes : List ℕ) → Reached bytes p.held store.old p.kept → Reached (bytes ++ piece.now) result.held store.new result.kept }
+    ensures ok { OnOk result (λ r. (bytes : List ℕ) → Reached bytes p.held store.old p.kept → Reached (bytes ++ piece.now) r.held store.new r.kept) }
+    ensures err { OnErr result ((bytes : List ℕ) → Reached bytes p.held store.old p.kept → (n : ℕ) × (held : Held) × (kept : ℕ) × Reached (bytes ++ take n piece.now) held store.new kept) }
 {
     let mut q = p;
     let mut at = 0;
@@ -18,19 +28,21 @@ fn take_piece(p: Progress, piece: &[u8], store: &mut [u8; STORE], area: &mut [u8
         let held = q.held;
         q = run_piece(held, q.kept, &piece[at..], store, area);
         let len = q.len;
-        io::write_all(STDOUT_FILENO, &area[..len]);
+        out.write_all(&area[..len])?;
         at += q.next;
     }
-    q
+    Ok(q)
 }
 
 // A proved loop has to end, and nothing says that the input does: so the turns are counted down from a number that no run
 // uses up. What a piece writes is out before the next one is read, so that a person at a terminal sees it. "The last may lack
 // it": 0Ah behind the input ends the last line, and behind a line that has ended it is an empty line.
-fn main() {
-    let mut piece = io::large_buffer();
+fn main(rt: HostRuntime) -> io::Result<()> {
+    let mut input = rt.stdin();
+    let mut out = rt.stdout();
+    let mut piece = [0u8; 65536];
     let mut store = [0u8; STORE];
-    let mut area = io::large_buffer();
+    let mut area = [0u8; 65536];
     let mut p = Progress {
         held: start(),
         kept: 0,
@@ -39,12 +51,13 @@ fn main() {
     };
     let mut turns = u64::MAX;
     while turns > 0 {
-        let n = io::count(libc::read(STDIN_FILENO, &mut piece), &piece);
+        let n = input.read(&mut piece)?;
         if n == 0 {
             break;
         }
-        p = take_piece(p, &piece[..n], &mut store, &mut area);
+        p = take_piece(&mut out, p, &piece[..n], &mut store, &mut area)?;
         turns -= 1;
     }
-    take_piece(p, b"\n", &mut store, &mut area);
+    take_piece(&mut out, p, b"\n", &mut store, &mut area)?;
+    Ok(())
 }
