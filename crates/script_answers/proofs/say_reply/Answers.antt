@@ -1,0 +1,39 @@
+-- `say_reply` puts the front of the area as the reply, looks at the rest, and ends the text.
+use Prim.Native.Nat.{ℕ, ◌-◌, ◌≤◌}
+use mathlib.Core.Path.{◌≡◌, sym, ap, ◌∙◌}
+use mathlib.Core.List.{List}
+use lib.ListN.{take, drop, length, length-append, length-drop, take-append-drop}
+use lib.Seq.{take_all, take_at, drop_at}
+use native.Mathlib.Omega.{arith}
+use Rattle.script_text.proofs.Puts.{puts_then}
+use Rattle.script_answers.specs.Answers.{writes, replied}
+use Rattle.script_answers.proofs.say_reply.Goals as goal
+
+-- an area parts at the end of its front
+fits : {n : ℕ} (k : ℕ) (s : List ℕ) → n ≡ length (take k s) → n ≤ length s
+fits k s e =
+    let l = ap length (take-append-drop k s) in
+    let m = length-append (take k s) (drop k s) in
+    omega (arith, e, l, m)
+
+front : {n : ℕ} (k : ℕ) (s : List ℕ) → n ≡ length (take k s) → take n s ≡ take k s
+front {n} k s e = rw (take-append-drop k s) at (take_at (take k s) (drop k s) n (sym e))
+
+rest : {n : ℕ} (k : ℕ) (s : List ℕ) → n ≡ length (take k s) → take (length s - n) (drop n s) ≡ drop k s
+rest {n} k s e =
+    take_all (length s - n) (drop n s) (let l = length-drop n s in omega (arith, l))
+    ∙ (rw (take-append-drop k s) at (drop_at (take k s) (drop k s) n (sym e)))
+
+pub returns : goal.returns
+unfolding writes replied
+returns c =
+    let e = c.ended.ensures in
+    let p = c in
+    let place = p in
+    let number = place in
+    let front_is = number.front_length-n.ensures in
+    let a = number.args in
+    let s = a.area.now in
+    let k = a.len in
+    let text = rw (number.answer_number-number.ensures, place.answer_place.ensures, front k s front_is, rest k s front_is) at p.put_reply-at.ensures in
+    record { box_is = e.box_is; text_is = puts_then text e.text_is }
