@@ -62,7 +62,8 @@ in_packet-returns-then-n-lt64 t c =
     let a = c.args in
     let w = c.whole_in-k in
     let h : a.n < 64 = omega arith in
-    note_at a.at (listing a.n a.starts.now a.lengths.now 0 0) a.rest.now w.result c.requires.3 c.requires.4 w.ensures _ c.if-k-eq0.false h c.between_packets.ensures
+    let s = listing a.n a.starts.now a.lengths.now 0 0 in
+    note_at a.at s a.rest.now w.result c.requires.3 c.requires.4 w.ensures _ c.if-k-eq0.false h c.between_packets.ensures
 
 pub in_packet-returns : goal.in_packet-returns
 in_packet-returns t c =

@@ -9,4 +9,5 @@ pub returns : goal.returns
 returns c =
     let a = c.args in
     let i = c.lesser-i in
-    holds_all a.h.now a.p.now a.j i.result _ c.stored-store.result _ _ i.ensures (rest a.h.now i.result) (rest a.p.now (a.j - i.result)) c.stored-store.ensures refl
+    let s = c.stored-store in
+    holds_all a.h.now a.p.now a.j i.result _ s.result _ _ i.ensures (rest a.h.now i.result) (rest a.p.now (a.j - i.result)) s.ensures refl

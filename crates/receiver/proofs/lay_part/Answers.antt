@@ -8,4 +8,6 @@ returns c =
     let u = c.lesser-a in
     let v = c.lesser-b in
     let y = c.lay in
-    sent_both a.h.now a.p.now a.area.now a.j a.n u.result v.result y.new.out c.lay-2.new.out u.ensures v.ensures c.requires.0 c.requires.1 y.ensures c.lay-2.ensures
+    let z = c.lay-2 in
+    let r = c.requires in
+    sent_both a.h.now a.p.now a.area.now a.j a.n u.result v.result y.new.out z.new.out u.ensures v.ensures r.0 r.1 y.ensures z.ensures

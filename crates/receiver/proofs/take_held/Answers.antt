@@ -5,7 +5,9 @@ use Rattle.receiver.proofs.Taking.{takes_held}
 use Rattle.receiver.proofs.take_held.Goals as goal
 
 pub returns-then-held-gt512 : goal.returns-then-held-gt512
-returns-then-held-gt512 c = let a = c.args in takes_held _ [] a.piece.now a.packet.now _ c.take_from.result (claims_more _ c.if-held-gt512.true) c.take_from.ensures
+returns-then-held-gt512 c =
+    let a = c.args in
+    takes_held _ [] a.piece.now a.packet.now _ c.take_from.result (claims_more _ c.if-held-gt512.true) c.take_from.ensures
 
 pub returns : goal.returns
 returns c = let a = c.args in takes_held _ _ a.piece.now a.packet.now _ c.take_from-2.result (holds _ c.if-held-gt512.false) c.take_from-2.ensures

@@ -16,16 +16,24 @@ pub returns-then-left-n : goal.returns-then-left-n
 returns-then-left-n c =
     let a = c.args in
     let s = a.h.now ++ a.p.now in
-    let k = size_at s a.j c.byte_of-high.result c.byte_of-low.result c.number2.result c.size_of-n.result c.byte_of-high.ensures c.byte_of-low.ensures c.number2.ensures c.size_of-n.ensures in
+    let h = c.byte_of-high in
+    let l = c.byte_of-low in
+    let m = c.number2 in
+    let n = c.size_of-n in
+    let k = size_at s a.j h.result l.result m.result n.result h.ensures l.ensures m.ensures n.ensures in
     let d = length-drop a.j s in
     let q = length-append a.h.now a.p.now in
-    too_long_lem (drop a.j s) c.size_of-n.result (omega (arith, d, q)) k (omega (arith, d, q))
+    too_long_lem (drop a.j s) n.result (omega (arith, d, q)) k (omega (arith, d, q))
 
 pub returns : goal.returns
 returns c =
     let a = c.args in
     let s = a.h.now ++ a.p.now in
-    let k = size_at s a.j c.byte_of-high.result c.byte_of-low.result c.number2.result c.size_of-n.result c.byte_of-high.ensures c.byte_of-low.ensures c.number2.ensures c.size_of-n.ensures in
+    let h = c.byte_of-high in
+    let l = c.byte_of-low in
+    let m = c.number2 in
+    let n = c.size_of-n in
+    let k = size_at s a.j h.result l.result m.result n.result h.ensures l.ensures m.ensures n.ensures in
     let d = length-drop a.j s in
     let q = length-append a.h.now a.p.now in
-    long_enough (drop a.j s) c.size_of-n.result (omega (arith, d, q)) k (omega (arith, d, q))
+    long_enough (drop a.j s) n.result (omega (arith, d, q)) k (omega (arith, d, q))

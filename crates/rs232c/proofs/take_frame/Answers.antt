@@ -32,23 +32,30 @@ pub returns-in-Refused : goal.returns-in-Refused
 unfolding turned
 returns-in-Refused c =
     let a = c.args in
-    takes_turn (turn_of a.m.now) a.w a.area.now _ _ _ _ _ c.if-area-lt512.false (asked a.m.now a.w c.hear-ask.result _ c.hear-ask.ensures c.in-Refused.is) refl refl (record { length_is = refl; area_is = refl })
+    let e = asked a.m.now a.w c.hear-ask.result _ c.hear-ask.ensures c.in-Refused.is in
+    takes_turn (turn_of a.m.now) a.w a.area.now _ _ _ _ _ c.if-area-lt512.false e refl refl (record { length_is = refl; area_is = refl })
 
 pub returns-in-Broken : goal.returns-in-Broken
 unfolding turned
 returns-in-Broken c =
     let a = c.args in
-    takes_turn (turn_of a.m.now) a.w a.area.now _ _ _ _ _ c.if-area-lt512.false (asked a.m.now a.w c.hear-ask.result _ c.hear-ask.ensures c.in-Broken.is) refl refl (whole _ _ a.area.now _ c.if-area-lt512.false c.send-len.ensures)
+    let e = asked a.m.now a.w c.hear-ask.result _ c.hear-ask.ensures c.in-Broken.is in
+    takes_turn (turn_of a.m.now) a.w a.area.now _ _ _ _ _ c.if-area-lt512.false e refl refl (whole _ _ a.area.now _ c.if-area-lt512.false c.send-len.ensures)
 
 pub returns-in-NotUnderstood : goal.returns-in-NotUnderstood
 unfolding turned
 returns-in-NotUnderstood c =
     let a = c.args in
-    takes_turn (turn_of a.m.now) a.w a.area.now _ _ _ _ _ c.if-area-lt512.false (asked a.m.now a.w c.hear-ask.result _ c.hear-ask.ensures c.in-NotUnderstood.is) refl refl (whole _ _ a.area.now _ c.if-area-lt512.false c.send-len-in-NotUnderstood.ensures)
+    let e = asked a.m.now a.w c.hear-ask.result _ c.hear-ask.ensures c.in-NotUnderstood.is in
+    takes_turn (turn_of a.m.now) a.w a.area.now _ _ _ _ _ c.if-area-lt512.false e refl refl
+    (whole _ _ a.area.now _ c.if-area-lt512.false c.send-len-in-NotUnderstood.ensures)
 
 pub returns-in-Understood : goal.returns-in-Understood
 unfolding turned
 returns-in-Understood c =
     let a = c.args in
-    let s = subst (λ (y : Reply). Sent (bytes_of y) c.send-len-in-Understood.result a.area.now c.send-len-in-Understood.new.area) c.reply_to-reply.ensures (whole _ _ a.area.now _ c.if-area-lt512.false c.send-len-in-Understood.ensures) in
-    takes_turn (turn_of a.m.now) a.w a.area.now _ _ _ _ _ c.if-area-lt512.false (asked a.m.now a.w c.hear-ask.result _ c.hear-ask.ensures c.in-Understood.is) c.carry-next.ensures refl s
+    let n = c.send-len-in-Understood in
+    let f = whole _ _ a.area.now _ c.if-area-lt512.false n.ensures in
+    let s = subst (λ (y : Reply). Sent (bytes_of y) n.result a.area.now n.new.area) c.reply_to-reply.ensures f in
+    let e = asked a.m.now a.w c.hear-ask.result _ c.hear-ask.ensures c.in-Understood.is in
+    takes_turn (turn_of a.m.now) a.w a.area.now _ _ _ _ _ c.if-area-lt512.false e c.carry-next.ensures refl s

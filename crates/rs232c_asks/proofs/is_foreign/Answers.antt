@@ -15,8 +15,14 @@ returns-then-byte_at-ne1 c = sym (rw (← c.byte_at.ensures, eq-eqb _ _ c.if-byt
 
 pub returns-then-source-lt65 : goal.returns-then-source-lt65
 unfolding is_foreign
-returns-then-source-lt65 c = sym (rw (← c.byte_at.ensures, eq-eqb _ _ c.if-byte_at-ne2.false, ← c.byte_at-2.ensures, eq-eqb _ _ c.if-byte_at-ne1.false, ← c.byte_at-source.ensures, lt-ltb c.byte_at-source.result 0x41 (omega arith)))
+returns-then-source-lt65 c =
+    let s = c.byte_at-source in
+    let l = lt-ltb s.result 0x41 (omega arith) in
+    sym (rw (← c.byte_at.ensures, eq-eqb _ _ c.if-byte_at-ne2.false, ← c.byte_at-2.ensures, eq-eqb _ _ c.if-byte_at-ne1.false, ← s.ensures, l))
 
 pub returns : goal.returns
 unfolding is_foreign
-returns c = sym (rw (← c.byte_at.ensures, eq-eqb _ _ c.if-byte_at-ne2.false, ← c.byte_at-2.ensures, eq-eqb _ _ c.if-byte_at-ne1.false, ← c.byte_at-source.ensures, le-ltb c.byte_at-source.result 0x41 (omega arith)))
+returns c =
+    let s = c.byte_at-source in
+    let l = le-ltb s.result 0x41 (omega arith) in
+    sym (rw (← c.byte_at.ensures, eq-eqb _ _ c.if-byte_at-ne2.false, ← c.byte_at-2.ensures, eq-eqb _ _ c.if-byte_at-ne1.false, ← s.ensures, l))

@@ -14,7 +14,8 @@ returns-then-which-eq1 c = sym (rw (eq-eqb _ _ c.if-bytes-ne1.false, ← c.byte_
 
 pub returns-then-which-ne2 : goal.returns-then-which-ne2
 unfolding sense_command
-returns-then-which-ne2 c = sym (rw (eq-eqb _ _ c.if-bytes-ne1.false, ← c.byte_at-which.ensures, ne_eqb _ _ c.if-which-eq1.false, ne_eqb _ _ c.if-which-ne2.true))
+returns-then-which-ne2 c =
+    sym (rw (eq-eqb _ _ c.if-bytes-ne1.false, ← c.byte_at-which.ensures, ne_eqb _ _ c.if-which-eq1.false, ne_eqb _ _ c.if-which-ne2.true))
 
 pub returns : goal.returns
 unfolding sense_command

@@ -21,16 +21,18 @@ loop-i-init c = (search rules, omega arith)
 
 pub returns-then-code-connectors : goal.returns-then-code-connectors
 returns-then-code-connectors c =
-    let l = c in
-    let code = l.args.code in
-    let h : l.loop-i.i < length connectors = omega arith in
-    let z : place_in (drop l.loop-i.i connectors) code ≡ 0 = place-from connectors code l.loop-i.i h ∙ rw (eq-eqb code (get_or connectors l.loop-i.i 0) c.if-code-connectors.true) in
-    omega (arith, z, l.loop-i.invariant.1)
+    let code = c.args.code in
+    let i = c.loop-i.i in
+    let h : i < length connectors = omega arith in
+    let e = eq-eqb code (get_or connectors i 0) c.if-code-connectors.true in
+    let z : place_in (drop i connectors) code ≡ 0 = place-from connectors code i h ∙ rw e in
+    omega (arith, z, c.loop-i.invariant.1)
 
 pub loop-i-preserved : goal.loop-i-preserved
 loop-i-preserved c =
-    let l = c in
-    let code = l.args.code in
-    let h : l.loop-i.i < length connectors = omega arith in
-    let z : place_in (drop l.loop-i.i connectors) code ≡ suc (place_in (drop (l.loop-i.i + 1) connectors) code) = place-from connectors code l.loop-i.i h ∙ rw (ne_eqb code (get_or connectors l.loop-i.i 0) c.if-code-connectors.false) in
-    (search rules, omega (arith, z, l.loop-i.invariant.1))
+    let code = c.args.code in
+    let i = c.loop-i.i in
+    let h : i < length connectors = omega arith in
+    let e = ne_eqb code (get_or connectors i 0) c.if-code-connectors.false in
+    let z : place_in (drop i connectors) code ≡ suc (place_in (drop (i + 1) connectors) code) = place-from connectors code i h ∙ rw e in
+    (search rules, omega (arith, z, c.loop-i.invariant.1))
