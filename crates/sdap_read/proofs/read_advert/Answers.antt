@@ -21,11 +21,14 @@ zero_is l answer n e f z = sym (ap number_of e) ∙ sym f ∙ z
 
 pub returns-then-answer_number-ne0 : goal.returns-then-answer_number-ne0
 returns-then-answer_number-ne0 c =
-    refusal c.args.s.now c.read_answer-answer.result c.answer_number.result _ c.read_answer-answer.ensures c.answer_number.ensures c.if-answer_number-ne0.true c.refused.ensures
+    let n = c.if-answer_number-ne0.true in
+    refusal c.args.s.now c.read_answer-answer.result c.answer_number.result _ c.read_answer-answer.ensures c.answer_number.ensures n c.refused.ensures
 
 pub fields-fields-requires : goal.fields-fields-requires
 fields-fields-requires c =
-    (readable c.args.s.now (zero_is c.args.s.now c.read_answer-answer.result c.answer_number.result c.read_answer-answer.ensures c.answer_number.ensures c.if-answer_number-ne0.false)).long
+    let s = c.args.s.now in
+    let r = c.read_answer-answer in
+    (readable s (zero_is s r.result c.answer_number.result r.ensures c.answer_number.ensures c.if-answer_number-ne0.false)).long
 
 pub returns : goal.returns
 unfolding read_of

@@ -29,4 +29,5 @@ unfolding read_answer
 returns c =
     let s = c.args.s.now in
     rw (eq-eqb _ _ c.if-s-ne122.false, ← c.is_front.ensures, c.if-not-is_front.false)
-    (agreed s c.verdict_of.result c.number2_at-power.result c.number2_at-error.result c.number2_at-power.ensures c.number2_at-error.ensures c.verdict_of.ensures)
+    (agreed s c.verdict_of.result c.number2_at-power.result c.number2_at-error.result c.number2_at-power.ensures c.number2_at-error.ensures
+    c.verdict_of.ensures)
