@@ -1,4 +1,4 @@
--- Each rule is `between` from its place on: noise is passed over at once, and so is a packet that is whole.
+-- Noise is passed over at once, and so is a packet that is whole.
 use native.Mathlib.Omega.{arith}
 use mathlib.Core.Path.{sym}
 use Prim.Native.Nat.{◌<◌, ◌≤◌}

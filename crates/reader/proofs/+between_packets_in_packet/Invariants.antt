@@ -1,4 +1,4 @@
--- What is left falls: 2 bytes counted for each byte, and 1 more between packets.
+-- Each rule is `between` from its place on; what is left falls: 2 bytes counted for each byte, and 1 more between packets.
 use Prim.Native.Nat.{◌+◌, ◌*◌}
 use lib.ListN.{length}
 use Rattle.reader.proofs.+between_packets_in_packet.Given as goal
