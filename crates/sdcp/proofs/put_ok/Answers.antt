@@ -31,4 +31,5 @@ unfolding bytes_of
 returns c =
     let t = c.spell-text in
     let a = c.args in
-    subst (λ (b : List ℕ). Sent (packet_of a.m.now 1 b) c.put_packet.result a.area.now c.put_packet.new.area) (text_front (text_of a.told) t.result t.ensures) c.put_packet.ensures
+    subst (λ (b : List ℕ). Sent (packet_of a.m.now 1 b) c.put_packet.result a.area.now c.put_packet.new.area)
+    (text_front (text_of a.told) t.result t.ensures) c.put_packet.ensures

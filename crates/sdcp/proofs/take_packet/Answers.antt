@@ -38,22 +38,28 @@ pub returns-in-Refused : goal.returns-in-Refused
 unfolding turned
 returns-in-Refused c =
     let a = c.args in
-    takes_turn (turn_of a.m.now) a.w a.area.now _ _ _ _ _ c.if-area-lt512.false (asked a.m.now a.w c.hear-ask.result _ c.hear-ask.ensures c.in-Refused.is) refl refl (record { length_is = refl; area_is = refl })
+    takes_turn (turn_of a.m.now) a.w a.area.now _ _ _ _ _ c.if-area-lt512.false
+    (asked a.m.now a.w c.hear-ask.result _ c.hear-ask.ensures c.in-Refused.is) refl refl (record { length_is = refl; area_is = refl })
 
 pub returns-in-Broken : goal.returns-in-Broken
 unfolding turned bytes_of
 returns-in-Broken c =
     let a = c.args in
-    takes_turn (turn_of a.m.now) a.w a.area.now _ _ _ _ _ c.if-area-lt512.false (asked a.m.now a.w c.hear-ask.result _ c.hear-ask.ensures c.in-Broken.is) refl refl c.put_packet-len.ensures
+    takes_turn (turn_of a.m.now) a.w a.area.now _ _ _ _ _ c.if-area-lt512.false
+    (asked a.m.now a.w c.hear-ask.result _ c.hear-ask.ensures c.in-Broken.is) refl refl c.put_packet-len.ensures
 
 pub returns-in-NotUnderstood : goal.returns-in-NotUnderstood
 unfolding turned
 returns-in-NotUnderstood c =
     let a = c.args in
-    takes_turn (turn_of a.m.now) a.w a.area.now _ _ _ _ _ c.if-area-lt512.false (asked a.m.now a.w c.hear-ask.result _ c.hear-ask.ensures c.in-NotUnderstood.is) refl refl c.put_ok-len.ensures
+    takes_turn (turn_of a.m.now) a.w a.area.now _ _ _ _ _ c.if-area-lt512.false
+    (asked a.m.now a.w c.hear-ask.result _ c.hear-ask.ensures c.in-NotUnderstood.is) refl refl c.put_ok-len.ensures
 
 pub returns-in-Understood : goal.returns-in-Understood
 unfolding turned
 returns-in-Understood c =
     let a = c.args in
-    takes_turn (turn_of a.m.now) a.w a.area.now _ _ _ _ _ c.if-area-lt512.false (asked a.m.now a.w c.hear-ask.result _ c.hear-ask.ensures c.in-Understood.is) c.obey-next.ensures refl (subst (λ (t : Says). Sent (bytes_of a.m.now (Ok t)) c.put_ok-len-in-Understood.result a.area.now c.put_ok-len-in-Understood.new.area) c.tell-told.ensures c.put_ok-len-in-Understood.ensures)
+    takes_turn (turn_of a.m.now) a.w a.area.now _ _ _ _ _ c.if-area-lt512.false
+    (asked a.m.now a.w c.hear-ask.result _ c.hear-ask.ensures c.in-Understood.is) c.obey-next.ensures refl
+    (subst (λ (t : Says). Sent (bytes_of a.m.now (Ok t)) c.put_ok-len-in-Understood.result a.area.now c.put_ok-len-in-Understood.new.area)
+    c.tell-told.ensures c.put_ok-len-in-Understood.ensures)

@@ -10,16 +10,62 @@ returns-then-byte_at-ne0 c = sym (rw (← c.byte_at.ensures, ne_eqb _ _ c.if-byt
 
 pub returns-then-number2 : goal.returns-then-number2
 unfolding envelope_of
-returns-then-number2 c = sym (rw (← c.byte_at.ensures, eq-eqb _ _ c.if-byte_at-ne0.false, ← c.byte_at-2.ensures, ← c.byte_at-3.ensures, ← c.number2.ensures, ne_eqb _ _ c.if-number2.true))
+returns-then-number2 c =
+    sym (rw (
+      ← c.byte_at.ensures,
+      eq-eqb _ _ c.if-byte_at-ne0.false,
+      ← c.byte_at-2.ensures,
+      ← c.byte_at-3.ensures,
+      ← c.number2.ensures,
+      ne_eqb _ _ c.if-number2.true,
+    ))
 
 pub returns-then-size-gt499 : goal.returns-then-size-gt499
 unfolding envelope_of
-returns-then-size-gt499 c = sym (rw (← c.byte_at.ensures, eq-eqb _ _ c.if-byte_at-ne0.false, ← c.byte_at-2.ensures, ← c.byte_at-3.ensures, ← c.number2.ensures, eq-eqb _ _ c.if-number2.false, ← c.byte_at-4.ensures, ← c.byte_at-5.ensures, ← c.number2-size.ensures, lt-ltb _ _ c.if-size-gt499.true))
+returns-then-size-gt499 c =
+    sym (rw (
+      ← c.byte_at.ensures,
+      eq-eqb _ _ c.if-byte_at-ne0.false,
+      ← c.byte_at-2.ensures,
+      ← c.byte_at-3.ensures,
+      ← c.number2.ensures,
+      eq-eqb _ _ c.if-number2.false,
+      ← c.byte_at-4.ensures,
+      ← c.byte_at-5.ensures,
+      ← c.number2-size.ensures,
+      lt-ltb _ _ c.if-size-gt499.true,
+    ))
 
 pub returns-then-size-m : goal.returns-then-size-m
 unfolding envelope_of
-returns-then-size-m c = sym (rw (← c.byte_at.ensures, eq-eqb _ _ c.if-byte_at-ne0.false, ← c.byte_at-2.ensures, ← c.byte_at-3.ensures, ← c.number2.ensures, eq-eqb _ _ c.if-number2.false, ← c.byte_at-4.ensures, ← c.byte_at-5.ensures, ← c.number2-size.ensures, le-ltb _ _ c.if-size-gt499.false, ne_eqb _ _ c.if-size-m.true))
+returns-then-size-m c =
+    sym (rw (
+      ← c.byte_at.ensures,
+      eq-eqb _ _ c.if-byte_at-ne0.false,
+      ← c.byte_at-2.ensures,
+      ← c.byte_at-3.ensures,
+      ← c.number2.ensures,
+      eq-eqb _ _ c.if-number2.false,
+      ← c.byte_at-4.ensures,
+      ← c.byte_at-5.ensures,
+      ← c.number2-size.ensures,
+      le-ltb _ _ c.if-size-gt499.false,
+      ne_eqb _ _ c.if-size-m.true,
+    ))
 
 pub returns : goal.returns
 unfolding envelope_of
-returns c = sym (rw (← c.byte_at.ensures, eq-eqb _ _ c.if-byte_at-ne0.false, ← c.byte_at-2.ensures, ← c.byte_at-3.ensures, ← c.number2.ensures, eq-eqb _ _ c.if-number2.false, ← c.byte_at-4.ensures, ← c.byte_at-5.ensures, ← c.number2-size.ensures, le-ltb _ _ c.if-size-gt499.false, eq-eqb _ _ c.if-size-m.false))
+returns c =
+    sym (rw (
+      ← c.byte_at.ensures,
+      eq-eqb _ _ c.if-byte_at-ne0.false,
+      ← c.byte_at-2.ensures,
+      ← c.byte_at-3.ensures,
+      ← c.number2.ensures,
+      eq-eqb _ _ c.if-number2.false,
+      ← c.byte_at-4.ensures,
+      ← c.byte_at-5.ensures,
+      ← c.number2-size.ensures,
+      le-ltb _ _ c.if-size-gt499.false,
+      eq-eqb _ _ c.if-size-m.false,
+    ))

@@ -31,4 +31,5 @@ returns c =
     c.find.ensures
     ∙ ap (λ (n : ℕ). first_of n 0 (λ (v : ℕ). meets true (c.first_word.result + v) s)) c.word_count.ensures
     ∙ ap (λ (f : ℕ). first_of (length (words_of k)) 0 (λ (v : ℕ). meets true (f + v) s)) c.first_word.ensures
-    ∙ first_same (length (words_of k)) 0 (λ (v : ℕ). meets true (first_word k + v) s) (λ (v : ℕ). same (word_of k v) s) (λ v l. ap (λ (t : List ℕ). same t s) (word_row_lem k v h (omega arith)))
+    ∙ first_same (length (words_of k)) 0 (λ (v : ℕ). meets true (first_word k + v) s) (λ (v : ℕ). same (word_of k v) s)
+    (λ v l. ap (λ (t : List ℕ). same t s) (word_row_lem k v h (omega arith)))

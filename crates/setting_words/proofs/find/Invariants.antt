@@ -7,7 +7,9 @@ use Rattle.setting_words.specs.Rows.{initials, meets}
 use Rattle.setting_words.proofs.find.Given as goal
 
 abbrev pub invariant-loop-i : goal.invariant-loop-i
-invariant-loop-i l = ((l.i ≤ l.n) × (first_of l.n 0 (λ (j : ℕ). meets l.bare (l.first + j) l.s) ≡ first_of (l.n - l.i) l.i (λ (j : ℕ). meets l.bare (l.first + j) l.s))) × ((l.front ≡ get_or l.s 0 0) × (l.firsts ≡ initials))
+invariant-loop-i l =
+    ((l.i ≤ l.n) × (first_of l.n 0 (λ (j : ℕ). meets l.bare (l.first + j) l.s) ≡ first_of (l.n - l.i) l.i (λ (j : ℕ). meets l.bare (l.first + j) l.s)))
+    × ((l.front ≡ get_or l.s 0 0) × (l.firsts ≡ initials))
 
 abbrev pub decreases-loop-i : goal.decreases-loop-i
 decreases-loop-i l = l.n - l.i

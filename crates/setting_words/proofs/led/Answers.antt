@@ -15,4 +15,5 @@ pub returns : goal.returns
 unfolding meets led_by
 returns c =
     let s = c.args.s.now in
-    c.find.ensures ∙ first_same 23 0 (λ (k : ℕ). meets false (0 + k) s) (λ (k : ℕ). begins (lead_of k) s) (λ k h. ap (λ (t : List ℕ). begins t s) (lead_row_lem k h))
+    c.find.ensures ∙ first_same 23 0 (λ (k : ℕ). meets false (0 + k) s) (λ (k : ℕ). begins (lead_of k) s)
+    (λ k h. ap (λ (t : List ℕ). begins t s) (lead_row_lem k h))

@@ -27,7 +27,8 @@ returns-then-bare c =
     let s = x.args.s.now in
     let n = c.bare_length-n.ensures in
     let l : length s ≡ length (bare_of row) = c.if-s-n.false ∙ n in
-    let e : c.row_begins.result ≡ same (bare_of row) s = c.row_begins.ensures ∙ ap (λ (m : ℕ). begins (take m (text_of row)) s) n ∙ ap (λ (t : List ℕ). begins t s) (bare_front_lem row x.requires) ∙ begins_same (bare_of row) s l in
+    let e : c.row_begins.result ≡ same (bare_of row) s = c.row_begins.ensures ∙ ap (λ (m : ℕ). begins (take m (text_of row)) s) n
+    ∙ ap (λ (t : List ℕ). begins t s) (bare_front_lem row x.requires) ∙ begins_same (bare_of row) s l in
     rw c.if-bare.true e
 
 pub returns : goal.returns
@@ -36,5 +37,6 @@ returns c =
     let x = c in
     let row = x.args.row in
     let s = x.args.s.now in
-    let e : c.row_begins-2.result ≡ begins (text_of row) s = c.row_begins-2.ensures ∙ ap (λ (m : ℕ). begins (take m (text_of row)) s) c.text_length-n.ensures ∙ ap (λ (t : List ℕ). begins t s) (take-length (text_of row)) in
+    let e : c.row_begins-2.result ≡ begins (text_of row) s = c.row_begins-2.ensures ∙ ap (λ (m : ℕ). begins (take m (text_of row)) s) c.text_length-n.ensures
+    ∙ ap (λ (t : List ℕ). begins t s) (take-length (text_of row)) in
     rw c.if-bare.false e

@@ -44,7 +44,8 @@ returns-then-text-j c =
     let h = inside a.row a.n l.loop-j.j f.requires.1 at in
     let k : l.loop-j.j < length a.s.now = omega arith in
     let b = byte _ a.row a.n l.loop-j.j l.loop-j.invariant.1 f.requires.1 at in
-    sym (l.loop-j.invariant.0.1 ∙ begins_from t a.s.now l.loop-j.j h k ∙ rw (ne_eqb (get_or t l.loop-j.j 0) (get_or a.s.now l.loop-j.j 0) (λ e. c.if-text-j.true (b ∙ e))))
+    sym (l.loop-j.invariant.0.1 ∙ begins_from t a.s.now l.loop-j.j h k
+    ∙ rw (ne_eqb (get_or t l.loop-j.j 0) (get_or a.s.now l.loop-j.j 0) (λ e. c.if-text-j.true (b ∙ e))))
 
 pub loop-j-preserved : goal.loop-j-preserved
 loop-j-preserved c =
@@ -55,5 +56,11 @@ loop-j-preserved c =
     let at = c.loop-j-test.true in
     let h = inside a.row a.n l.loop-j.j f.requires.1 at in
     let k : l.loop-j.j < length a.s.now = omega arith in
-    let b = byte _ a.row a.n l.loop-j.j l.loop-j.invariant.1 f.requires.1 at in
-    ((search rules, l.loop-j.invariant.0.1 ∙ begins_from t a.s.now l.loop-j.j h k ∙ rw (eq-eqb (get_or t l.loop-j.j 0) (get_or a.s.now l.loop-j.j 0) (sym b ∙ c.if-text-j.false))), l.loop-j.invariant.1)
+    let b = byte _ a.row a.n l.loop-j.j l.loop-j.invariant.1 f.requires.1 at in (
+      (
+        search rules,
+        l.loop-j.invariant.0.1 ∙ begins_from t a.s.now l.loop-j.j h k
+            ∙ rw (eq-eqb (get_or t l.loop-j.j 0) (get_or a.s.now l.loop-j.j 0) (sym b ∙ c.if-text-j.false)),
+      ),
+      l.loop-j.invariant.1,
+    )

@@ -10,4 +10,5 @@ pub returns-then-front-firsts : goal.returns-then-front-firsts
 returns-then-front-firsts c =
     let a = c in
     let row = a.args.row in
-    sym (other_initial a.args.bare row a.args.s.now a.requires.1.1 (λ e. c.if-front-firsts.true (a.requires.0 ∙ e ∙ sym (ap (λ (t : List ℕ). get_or t row 0) a.requires.1.0))))
+    sym (other_initial a.args.bare row a.args.s.now a.requires.1.1
+    (λ e. c.if-front-firsts.true (a.requires.0 ∙ e ∙ sym (ap (λ (t : List ℕ). get_or t row 0) a.requires.1.0))))

@@ -17,7 +17,8 @@ pub returns-then-begins_with-2 : goal.returns-then-begins_with-2
 unfolding shift_order
 returns-then-begins_with-2 c =
     let a = c.args in
-    c.shift_by-then-begins_with-2.ensures ∙ ap (λ (t : List ℕ). shift_by a.axis true 1 (level_of t)) (rest a.s.now 1) ∙ sym (rw (← c.begins_with.ensures, c.if-begins_with.false, ← c.begins_with-2.ensures, c.if-begins_with-2.true))
+    c.shift_by-then-begins_with-2.ensures ∙ ap (λ (t : List ℕ). shift_by a.axis true 1 (level_of t)) (rest a.s.now 1)
+    ∙ sym (rw (← c.begins_with.ensures, c.if-begins_with.false, ← c.begins_with-2.ensures, c.if-begins_with-2.true))
 
 pub returns : goal.returns
 unfolding shift_order

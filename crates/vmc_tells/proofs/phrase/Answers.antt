@@ -13,4 +13,5 @@ returns c =
     let a = c.args in
     let s = short_lead_lem a.k in
     let h : length (lead_of a.k) + length a.value.now ≤ 20 = omega arith in
-    two_parts c.put_lead.new.out c.lay.new.out (lead_of a.k) a.value.now c.lead_length-n.result (length a.value.now) c.put_lead.ensures c.lay.ensures c.lead_length-n.ensures refl h
+    two_parts c.put_lead.new.out c.lay.new.out (lead_of a.k) a.value.now c.lead_length-n.result
+    (length a.value.now) c.put_lead.ensures c.lay.ensures c.lead_length-n.ensures refl h

@@ -17,4 +17,5 @@ word k v n d e f = ap (λ (m : ℕ). take m d) e ∙ ap (take (length (word_of k
 pub returns : goal.returns
 returns c =
     let a = c.args in
-    c.phrase.ensures ∙ ap (λ (d : List ℕ). textual (lead_of a.k ++ d)) (word a.k a.v c.word_length-n.result c.put_word.new.out c.word_length-n.ensures c.put_word.ensures)
+    c.phrase.ensures ∙ ap (λ (d : List ℕ). textual (lead_of a.k ++ d))
+    (word a.k a.v c.word_length-n.result c.put_word.new.out c.word_length-n.ensures c.put_word.ensures)

@@ -62,4 +62,5 @@ returns c =
     let sign : c.sign_of.result ≡ sign_of z = c.sign_of.ensures ∙ ap sign_of q in
     let some : size_of z ≡ 0 → ⊥ = λ e. c.if-z-eq0.false (ap (of_z w8) (nothing z e)) in
     c.phrase-2.ensures
-    ∙ ap (λ (d : List ℕ). textual (lead_of x.args.k ++ d)) (signed_front c.sign_of.result v n.result n.ensures (search rules) ∙ rw (sign, size) (sym (rw (ne_eqb (size_of z) 0 some))))
+    ∙ ap (λ (d : List ℕ). textual (lead_of x.args.k ++ d))
+    (signed_front c.sign_of.result v n.result n.ensures (search rules) ∙ rw (sign, size) (sym (rw (ne_eqb (size_of z) 0 some))))
