@@ -40,8 +40,8 @@ def snake(name):
 
 
 def of_functions(path):
-    """Whether a file is a function's own proof: its names are Rattle's, but for helpers."""
-    return "/specs/" not in path and path.endswith(("/Proof.antt", "/Answers.antt", "/Invariants.antt"))
+    """Whether a file is a function's own proof, in a folder of proofs/: its names are Rattle's, but for helpers."""
+    return re.search(r"/proofs/.*/(Proof|Answers|Invariants)\.antt$", path) is not None
 
 
 class Names:

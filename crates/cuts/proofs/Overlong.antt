@@ -16,7 +16,7 @@ use Rattle.terms.specs.declared.Part.TheVariants.{Request, Item, TooLong, NotMat
 use Rattle.terms.specs.declared.Envelope.{Envelope}
 use Rattle.terms.specs.declared.Envelope.TheVariants.{Wrong}
 use Rattle.terms.specs.declared.Answer.TheVariants.{Done, NotForUs, PartWrong}
-use Rattle.terms.proofs.Answers.{told-tells}
+use Rattle.terms.proofs.Answers.{told_tells}
 use Rattle.turns.proofs.Turns.{roomy}
 use Rattle.panels.specs.declared.DisplayBox.{DisplayBox}
 use Rattle.sdcp.specs.Replies.{turned, turn_of}
@@ -88,4 +88,4 @@ pub never_twelve : (r : Receiver) (p : List ℕ) (b : DisplayBox) (l : ℕ) (are
 never_twelve r p b l area e =
     let x : Message = tcp l (given r p).packet area in
     let place = placed b x ∙ ap (λ (n : ℕ). get_or (places_in (length (given r p).packet)) n 0) e in
-    always_matching r p (only_part b x NotMatching (told-tells (step b x).answer (PartWrong NotMatching) e place)).3
+    always_matching r p (only_part b x NotMatching (told_tells (step b x).answer (PartWrong NotMatching) e place)).3

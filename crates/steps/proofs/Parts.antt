@@ -13,7 +13,7 @@ use Rattle.terms.specs.declared.Part.{Part}
 use Rattle.terms.specs.declared.Answer.{Answer}
 use Rattle.terms.specs.declared.Answer.TheVariants.{Done, AreaTooSmall, NoSuchPanel, WrongLength, NotForUs, EnvelopeWrong, NotUnderstood, BadConfiguration, StatusByBroadcast, PartWrong}
 use Rattle.terms.specs.declared.Envelope.TheVariants.{Wrong}
-use Rattle.terms.proofs.Answers.{part-late}
+use Rattle.terms.proofs.Answers.{part_late}
 use Rattle.turns.specs.Turns.{Turn}
 use Rattle.turns.proofs.Turns.{either}
 use Rattle.panels.specs.declared.WRecord.{WRecord}
@@ -115,7 +115,7 @@ low_told x EnvelopeWrong l = tt
 low_told x NotUnderstood l = tt
 low_told x BadConfiguration l = tt
 low_told x StatusByBroadcast l = tt
-low_told x (PartWrong p) l = let n = part-late p in absurd (omega (arith, n, l))
+low_told x (PartWrong p) l = let n = part_late p in absurd (omega (arith, n, l))
 
 frame_told : (x : Message) (m : List ℕ) (k : KRecord) → Told x (frames.turn_of m k).answer
 frame_told x m k = low_told x (frames.turn_of m k).answer (subst (λ (n : ℕ). n < 9) (sym (frame_answered m k)) (go (not (eqb (length m) 24)) (not (frameAsks.is_ours m)) (frame_unclear (frameAsks.heard_of m))))

@@ -8,7 +8,7 @@ use lib.Dec.{eqb}
 use lib.ListN.{length}
 use Rattle.laws.proofs.Conditions.{and_first, and_second, and_both}
 use Rattle.terms.specs.Answers.{number_of}
-use Rattle.terms.proofs.Answers.{part-late}
+use Rattle.terms.proofs.Answers.{part_late}
 use Rattle.turns.specs.Turns.{Turn, taken, turn_with}
 use Rattle.turns.proofs.Turns.{either}
 use Rattle.panels.specs.Records.{family_w, family_k}
@@ -51,7 +51,7 @@ quiet {R} room f x = either (λ (t : Turn R). Quiet (number_of t.answer) t.reply
 serial_heard : (h : serialHeard.Heard) (vs : List ℕ) (w : WRecord) → Quiet (number_of (serial.turned h vs w).answer) (serial.turned h vs w).reply
 unfolding serial.turned
 serial_heard (serialIs.Refused a) vs w z l = refl
-serial_heard (serialIs.Broken s p) vs w z l = let n = part-late p in absurd (omega (arith, n, l))
+serial_heard (serialIs.Broken s p) vs w z l = let n = part_late p in absurd (omega (arith, n, l))
 serial_heard (serialIs.NotUnderstood s) vs w z l = absurd (omega arith)
 serial_heard (serialIs.Understood s o) vs w z l = absurd (z refl)
 
@@ -68,7 +68,7 @@ frame_quiet m k = frame_heard (frameAsks.heard_of m) _ k
 packet_heard : (m : List ℕ) (h : packetHeard.Heard) (w : WRecord) → Quiet (number_of (packets.turned m h w).answer) (packets.turned m h w).reply
 unfolding packets.turned
 packet_heard m (packetIs.Refused a) w z l = refl
-packet_heard m (packetIs.Broken p) w z l = let n = part-late p in absurd (omega (arith, n, l))
+packet_heard m (packetIs.Broken p) w z l = let n = part_late p in absurd (omega (arith, n, l))
 packet_heard m packetIs.NotUnderstood w z l = absurd (omega arith)
 packet_heard m (packetIs.Understood o) w z l = absurd (z refl)
 

@@ -42,8 +42,8 @@ back (PartWrong Count) = refl
 back (PartWrong (Checksum place)) = refl
 
 -- number and place tell the answer
-pub told-tells : (a b : Answer) → number_of a ≡ number_of b → answer_place a ≡ answer_place b → a ≡ b
-told-tells a b e f = sym (back a) ∙ ap (λ (n : ℕ). answer_of n (answer_place a)) e ∙ ap (answer_of (number_of b)) f ∙ back b
+pub told_tells : (a b : Answer) → number_of a ≡ number_of b → answer_place a ≡ answer_place b → a ≡ b
+told_tells a b e f = sym (back a) ∙ ap (λ (n : ℕ). answer_of n (answer_place a)) e ∙ ap (answer_of (number_of b)) f ∙ back b
 
 -- f says yes of each of them
 abbrev pub all : (Answer → Bool) → List Answer → Bool
@@ -60,29 +60,29 @@ at_each f (a ∷ l) zero d e h = (both (f a) (all f l) e).0
 at_each f (a ∷ l) (suc n) d e h = at_each f l n d (both (f a) (all f l) e).1 h
 
 -- one computed test says it of every answer
-pub every-answer : (f : Answer → Bool) → ((place : ℕ) → all f (answers place) ≡ true) → (a : Answer) → f a ≡ true
+pub every_answer : (f : Answer → Bool) → ((place : ℕ) → all f (answers place) ≡ true) → (a : Answer) → f a ≡ true
 unfolding answer_of
-every-answer f e a = sym (ap f (back a)) ∙ at_each f (answers (answer_place a)) (number_of a) Done (e (answer_place a)) (both (f Done) _ (e 0)).0
+every_answer f e a = sym (ap f (back a)) ∙ at_each f (answers (answer_place a)) (number_of a) Done (e (answer_place a)) (both (f Done) _ (e 0)).0
 
 -- the numbers are those from 0 on, one for each
 pub number_small : (a : Answer) → number_of a < 15
-number_small a = ltb-true (number_of a) 15 (every-answer (λ (x : Answer). ltb (number_of x) 15) (λ place. refl) a)
+number_small a = ltb-true (number_of a) 15 (every_answer (λ (x : Answer). ltb (number_of x) 15) (λ place. refl) a)
 
 -- those of a wrong part are 9 and more
-pub part-late : (p : Part) → 9 ≤ part_number p
-part-late Request = omega arith
-part-late Item = omega arith
-part-late TooLong = omega arith
-part-late NotMatching = omega arith
-part-late Count = omega arith
-part-late (Checksum place) = omega arith
+pub part_late : (p : Part) → 9 ≤ part_number p
+part_late Request = omega arith
+part_late Item = omega arith
+part_late TooLong = omega arith
+part_late NotMatching = omega arith
+part_late Count = omega arith
+part_late (Checksum place) = omega arith
 
 -- "other answers have place 0": those whose number is under 9
 pub place_none : (a : Answer) → number_of a < 9 → answer_place a ≡ 0
 place_none a h =
     eqb-true (answer_place a) 0
-    (ap (λ (t : Bool). not t || eqb (answer_place a) 0) (sym (lt-ltb (number_of a) 9 h)) ∙ every-answer (λ (x : Answer). not (ltb (number_of x) 9) || eqb (answer_place x) 0) (λ place. refl) a)
+    (ap (λ (t : Bool). not t || eqb (answer_place a) 0) (sym (lt-ltb (number_of a) 9 h)) ∙ every_answer (λ (x : Answer). not (ltb (number_of x) 9) || eqb (answer_place x) 0) (λ place. refl) a)
 
 -- a number under 9 tells the answer alone
 pub number_tells : (a b : Answer) → number_of b < 9 → number_of a ≡ number_of b → a ≡ b
-number_tells a b h e = told-tells a b e (place_none a (subst (λ (n : ℕ). n < 9) (sym e) h) ∙ sym (place_none b h))
+number_tells a b h e = told_tells a b e (place_none a (subst (λ (n : ℕ). n < 9) (sym e) h) ∙ sym (place_none b h))

@@ -12,9 +12,9 @@ use Rattle.laws.specs.Lists.{every}
 use Rattle.rs232c_inputs.specs.Inputs.{turned_off}
 use Rattle.rs232c_inputs.proofs.turned_off.Goals as goal
 
-same-either : (b : Bool) (l : List ℕ) → cond b l l ≡ l
-same-either true l = refl
-same-either false l = refl
+same_either : (b : Bool) (l : List ℕ) → cond b l l ≡ l
+same_either true l = refl
+same_either false l = refl
 
 pub returns-then-place-ge10 : goal.returns-then-place-ge10
 unfolding turned_off
@@ -22,7 +22,7 @@ returns-then-place-ge10 c =
     let on = c.args.on in
     let h : length on ≡ 10 = search rules in
     let e : set on c.args.place 0 ≡ on = set_out on c.args.place 0 (omega arith) in
-    sym (rw e (same-either (every (eqb 0) on) on))
+    sym (rw e (same_either (every (eqb 0) on) on))
 
 pub returns-then-all_are : goal.returns-then-all_are
 unfolding turned_off

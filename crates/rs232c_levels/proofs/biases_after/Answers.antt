@@ -18,10 +18,10 @@ use Rattle.rs232c_levels.proofs.Decode.{decode_at, puts_length, puts_at, three_a
 use mir.Val.{to_z, of_z, SFits}
 use Rattle.rs232c_levels.proofs.biases_after.Goals as goal
 
-bias-at : (mask : ℕ) (vs : List ℕ) (z : List ℤ) (k : ℕ) → k < 3 → length z ≡ 3
+bias_at : (mask : ℕ) (vs : List ℕ) (z : List ℤ) (k : ℕ) → k < 3 → length z ≡ 3
     → get_or (puts bias_of (drop 3 (decode 6 mask vs)) z) k (pos 0)
     ≡ put bias_of (said (mask / 2 ^ (3 + k)) (get_or vs (ones (mask % 2 ^ (3 + k))) 0)) (get_or z k (pos 0))
-bias-at mask vs z k h l =
+bias_at mask vs z k h l =
     puts_at bias_of (drop 3 (decode 6 mask vs)) z k (pos 0) (omega arith)
     ∙ ap (λ (s : Say). put bias_of s (get_or z k (pos 0))) (get_or-drop 3 (decode 6 mask vs) k silent ∙ decode_at 6 (3 + k) mask vs (omega arith))
 
@@ -47,7 +47,7 @@ returns c =
     c.bias_after-green.ensures ∙ rw c.ones_of-2.ensures.0 in
     let g : c.bias_after-blue.result ≡ put bias_of (said (mask / 32) (get_or vs (ones (mask % 32)) 0)) (to_z w16 (of_z w16 (get_or z 2 (pos 0)))) =
     c.bias_after-blue.ensures ∙ rw c.ones_of-3.ensures.0 in
-    let p = bias-at mask vs z 0 (omega arith) l ∙ sym (settled (said (mask / 8) (get_or vs (ones (mask % 8)) 0)) (get_or z 0 (pos 0)) _ (search rules) e) in
-    let q = bias-at mask vs z 1 (omega arith) l ∙ sym (settled (said (mask / 16) (get_or vs (ones (mask % 16)) 0)) (get_or z 1 (pos 0)) _ (search rules) f) in
-    let r = bias-at mask vs z 2 (omega arith) l ∙ sym (settled (said (mask / 32) (get_or vs (ones (mask % 32)) 0)) (get_or z 2 (pos 0)) _ (search rules) g) in
+    let p = bias_at mask vs z 0 (omega arith) l ∙ sym (settled (said (mask / 8) (get_or vs (ones (mask % 8)) 0)) (get_or z 0 (pos 0)) _ (search rules) e) in
+    let q = bias_at mask vs z 1 (omega arith) l ∙ sym (settled (said (mask / 16) (get_or vs (ones (mask % 16)) 0)) (get_or z 1 (pos 0)) _ (search rules) f) in
+    let r = bias_at mask vs z 2 (omega arith) l ∙ sym (settled (said (mask / 32) (get_or vs (ones (mask % 32)) 0)) (get_or z 2 (pos 0)) _ (search rules) g) in
     three_are (puts bias_of (drop 3 (decode 6 mask vs)) z) (pos 0) _ _ _ (puts_length bias_of (drop 3 (decode 6 mask vs)) z ∙ l) p q r

@@ -26,16 +26,16 @@ none_in (x ∷ y ∷ l) zero h = absurd (omega arith)
 none_in (x ∷ y ∷ l) (suc j) h = none_in l j (omega arith)
 
 -- the bytes behind the mask are the frame's from place 6 on, up to the checksum
-behind-mask : (m : List ℕ) (i : ℕ) → i + 7 < length m → get_or (drop 1 (data_of m)) i 0 ≡ get_or m (6 + i) 0
-behind-mask m i h =
+behind_mask : (m : List ℕ) (i : ℕ) → i + 7 < length m → get_or (drop 1 (data_of m)) i 0 ≡ get_or m (6 + i) 0
+behind_mask m i h =
     get_or-drop 1 (data_of m) i 0 ∙ get_or-take (length m - 6) (drop 5 m) (1 + i) 0 (omega arith) ∙ get_or-drop 5 m (1 + i) 0
     ∙ ap (λ (k : ℕ). get_or m k 0) (omega arith)
 
-value-is : (m : List ℕ) (j : ℕ) → 9 + 2 * j ≤ length m → get_or (values_of m) j 0 ≡ get_or m (6 + 2 * j) 0 + 256 * get_or m (7 + 2 * j) 0
-value-is m j h =
+value_is : (m : List ℕ) (j : ℕ) → 9 + 2 * j ≤ length m → get_or (values_of m) j 0 ≡ get_or m (6 + 2 * j) 0 + 256 * get_or m (7 + 2 * j) 0
+value_is m j h =
     let a : 6 + (2 * j + 1) ≡ 7 + 2 * j = omega arith in
-    let p : get_or (drop 1 (data_of m)) (2 * j) 0 ≡ get_or m (6 + 2 * j) 0 = behind-mask m (2 * j) (omega arith) in
-    let q : get_or (drop 1 (data_of m)) (2 * j + 1) 0 ≡ get_or m (7 + 2 * j) 0 = behind-mask m (2 * j + 1) (omega arith) ∙ ap (λ (k : ℕ). get_or m k 0) a in
+    let p : get_or (drop 1 (data_of m)) (2 * j) 0 ≡ get_or m (6 + 2 * j) 0 = behind_mask m (2 * j) (omega arith) in
+    let q : get_or (drop 1 (data_of m)) (2 * j + 1) 0 ≡ get_or m (7 + 2 * j) 0 = behind_mask m (2 * j + 1) (omega arith) ∙ ap (λ (k : ℕ). get_or m k 0) a in
     let w = value_in (drop 1 (data_of m)) j (simp (length-drop, length-take, length-drop) (omega arith)) in
     omega (arith, p, q, w)
 
@@ -48,4 +48,4 @@ returns-then-m-j c = sym (no_value c.args.m.now c.args.j (omega arith))
 pub returns : goal.returns
 returns c =
     let a = c.args in
-    sym (value-is a.m.now a.j (omega arith) ∙ rw (← c.byte_at.ensures, ← c.byte_at-2.ensures))
+    sym (value_is a.m.now a.j (omega arith) ∙ rw (← c.byte_at.ensures, ← c.byte_at-2.ensures))

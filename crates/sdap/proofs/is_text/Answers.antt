@@ -11,15 +11,15 @@ use Rattle.sdap.specs.Rules.{is_text}
 use Rattle.sdap.proofs.is_text.Invariants.{joined}
 use Rattle.sdap.proofs.is_text.Goals as goal
 
-joined-text : (l : List ℕ) → joined l ≡ is_text l
+joined_text : (l : List ℕ) → joined l ≡ is_text l
 unfolding is_text
-joined-text [] = refl
-joined-text (x ∷ []) = one (eqb x 0)
+joined_text [] = refl
+joined_text (x ∷ []) = one (eqb x 0)
   where
     one : (b : Bool) → true ≡ cond b true true
     one true = refl
     one false = refl
-joined-text (x ∷ y ∷ l) = more (eqb x 0) (eqb y 0) refl (joined-text (y ∷ l))
+joined_text (x ∷ y ∷ l) = more (eqb x 0) (eqb y 0) refl (joined_text (y ∷ l))
   where
     more : (b d : Bool) → eqb y 0 ≡ d → joined (y ∷ l) ≡ cond (eqb y 0) (every (eqb 0) l) (is_text l)
         → (not (b && not (eqb y 0)) && joined (y ∷ l)) ≡ cond b (eqb 0 y && every (eqb 0) l) (cond (eqb y 0) (every (eqb 0) l) (is_text l))
@@ -39,4 +39,4 @@ last t i h k = few (drop (i - 1) t) (simp length-drop (omega arith))
 pub returns : goal.returns
 returns c =
     let t = c.args.t.now in
-    sym (sym (joined-text t) ∙ c.loop-i.invariant.1 ∙ rw (last t c.loop-i.i c.loop-i.invariant.0 (omega arith)) (and-true c.loop-i.ok))
+    sym (sym (joined_text t) ∙ c.loop-i.invariant.1 ∙ rw (last t c.loop-i.i c.loop-i.invariant.0 (omega arith)) (and-true c.loop-i.ok))
