@@ -1,0 +1,10 @@
+-- `short_in` reads a number of at most 65535, which is one of two bytes.
+use Prim.Native.Nat.{◌≤◌}
+use borrow.Author.Rules.{rules}
+use Rattle.script_words.proofs.Laws.{number_most}
+use Rattle.script_write.proofs.short_in.Goals as goal
+
+pub overflow_cast-result : goal.overflow_cast-result
+overflow_cast-result c =
+    let h : c.number_at.result ≤ 65535 = rw c.number_at.ensures (number_most 65535 _ _) in
+    search rules
