@@ -126,6 +126,7 @@ fn byte_of(h: &[u8], p: &[u8], i: usize) -> u8
 }
 
 // The length of what is handed out, by the data length.
+#[tactic(auto, unfolding(crate::specs::Stream::size_of))]
 fn size_of(n: usize) -> usize
     ensures { result ≡ size_of n }
 {
