@@ -1,3 +1,4 @@
 pub mod Ends
 pub mod Trimmed
 pub mod Determined
+pub mod Lengths

@@ -5,6 +5,7 @@ ghost use Rattle.std.specs.Prelude.{◌≡◌, length};
 ghost use Rattle.trimming.specs.Trimming.{unterminated, unspaced, trimmed};
 
 // "One final 00h is taken off if there."
+#[tactic(auto, using(crate::proofs::Lengths::all_stays, crate::proofs::Lengths::one_goes))]
 fn unterminated_length(d: &[u8]) -> usize
     ensures { result ≡ length (unterminated d.now) }
 {
@@ -19,6 +20,7 @@ fn unterminated_length(d: &[u8]) -> usize
 }
 
 // "All spaces at the end", from the last one on.
+#[tactic(auto, using(crate::proofs::Lengths::all_of_front, crate::proofs::Lengths::space_goes))]
 fn unspaced_length(d: &[u8]) -> usize
     ensures { result ≡ length (unspaced d.now) }
 {
