@@ -1,6 +1,6 @@
 -- The receiver is called until a call hands out nothing: what is still to hand out, with the box and the text so far, gives the whole,
 -- and each call that hands out leaves fewer bytes.
-use Prim.Native.Nat.{ℕ, suc, ◌+◌, ◌<◌, ◌≤◌}
+use Prim.Native.Nat.{ℕ, suc, ◌<◌, ◌≤◌}
 use mathlib.Core.Path.{◌≡◌, refl, sym, ap, ◌∙◌}
 use mathlib.Core.Bool.{Bool, true, false, cond}
 use mathlib.Core.List.{List, [], ◌∷◌, ◌++◌, map}
@@ -12,7 +12,7 @@ use lib.Seq.{drop-drop}
 use Rattle.laws.specs.Bytes.{ascii}
 use Rattle.panels.specs.declared.DisplayBox.{DisplayBox}
 use Rattle.receiver.specs.declared.Receiver.{Receiver}
-use Rattle.receiver.specs.Calls.{held_in, given}
+use Rattle.receiver.specs.Calls.{held_in}
 use Rattle.receiver.specs.Pieces.{Fed, and_that, fed}
 use Rattle.receiver.proofs.Calls.{packet_le, takes_in}
 use Rattle.receiver.proofs.Pieces.{leaves, fed_last, fed_more, fed_held}

@@ -11,7 +11,7 @@ use Rattle.script_words.specs.Words.{number_at, bytes_at}
 use Rattle.script_words.specs.Kinds.{most_link, most_area}
 use Rattle.script_text.specs.Puts.{Puts}
 use Rattle.script_text.specs.Texts.{number_text, bytes_text}
-use Rattle.script_answers.specs.Answers.{Effect, writes, filler}
+use Rattle.script_answers.specs.Answers.{Effect, filler}
 use Rattle.script_messages.specs.Messages.{stepped}
 use Rattle.script_receivers.specs.declared.Linked.{Linked}
 
