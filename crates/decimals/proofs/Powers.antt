@@ -37,6 +37,10 @@ word_fits v n h k = let p : 10 ^ 10 ≤ 10 ^ n = pow-le-pow_right (omega arith) 
 pub no_digit : (v j : ℕ) → v < 10 ^ j → 0x30 + v / 10 ^ j % 10 ≡ 0x30
 no_digit v j h = rw (div-eq_of_lt h)
 
+-- so a word has `0` for each digit past the tenth
+pub no_digit_past : (v n : ℕ) → v < 4294967296 → 9 < n → 0x30 + v / 10 ^ n % 10 ≡ 0x30
+no_digit_past v n h k = no_digit v n (word_fits v n h (omega arith))
+
 -- the last digits of a number, as so often a power and less than that power: they are its digit of that power, and the digits behind it
 pub split : (v c rest j : ℕ) → c * 10 ^ j + rest ≡ v % 10 ^ suc j → rest < 10 ^ j → (c ≡ v / 10 ^ j % 10) × (rest ≡ v % 10 ^ j)
 split v c rest j e h =

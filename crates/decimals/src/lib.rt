@@ -60,6 +60,7 @@ fn number_in(p: &[u8]) -> u64
 }
 
 // The number that one to sixteen digits write; sixteen always fit the word.
+#[tactic(auto, unfolding(crate::specs::Decimals::read_digits))]
 pub fn read_digits(p: &[u8]) -> Number
     ensures { result ≡ read_digits p.now }
 {
@@ -146,6 +147,7 @@ pub fn digits4(v: u16) -> [u8; 4]
 }
 
 // A byte's number without leading zeros.
+#[tactic(auto, unfolding(crate::specs::Decimals::spelled, crate::specs::Decimals::numeral, crate::specs::Decimals::in_digits))]
 pub fn numeral_of(v: u8) -> Numeral
     ensures { result ≡ spelled v }
 {
@@ -183,6 +185,7 @@ pub fn width_of(v: u32) -> usize
 }
 
 // The digit of a number at a place, 0 the last.
+#[tactic(auto, using(crate::proofs::Powers::no_digit_past))]
 pub fn digit_at(v: u32, n: usize) -> u8
     ensures { result ≡ 0x30 + v / 10 ^ n % 10 }
 {

@@ -101,6 +101,7 @@ fn enquire(letters: [u8; 4], p: &[u8]) -> Heard
 }
 
 // `*S`, the footer, and a type C or E.
+#[tactic(auto, unfolding(crate::specs::Asks::is_ours))]
 fn is_ours(m: &[u8]) -> bool
     requires { length m.now ≡ 24 }
     ensures { result ≡ is_ours m.now }

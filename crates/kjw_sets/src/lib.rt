@@ -118,6 +118,7 @@ fn is_padded(p: &[u8]) -> bool
 }
 
 // "Type 1, 3, 4 or 5, [..] port 0001 to 9999."
+#[tactic(auto, unfolding(crate::specs::Sets::input_of, panels::specs::Valid::ok_input))]
 fn input_of(kind: u64, port: u64) -> Heard
     requires { (kind ≤ 9) × (port ≤ 9999) }
     ensures { result ≡ input_of kind port }

@@ -140,6 +140,7 @@ fn input_ok(kind: u8, port: u16) -> bool
 }
 
 // Every setting of family K is in its range.
+#[tactic(auto, unfolding(panels::specs::Valid::ok_k))]
 fn k_ok(k: KRecord) -> bool
     ensures { result ≡ ok_k k }
 {
@@ -162,6 +163,7 @@ fn k_ok(k: KRecord) -> bool
 }
 
 // "A W panel has a group ID 1 to 99 and a unit ID 1 to 99."
+#[tactic(auto, unfolding(panels::specs::Valid::ok_ids))]
 fn ids_ok(g: GroupId, u: UnitId) -> bool
     ensures { result ≡ ok_ids g u }
 {

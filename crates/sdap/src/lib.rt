@@ -83,6 +83,7 @@ fn are_texts(product: &[u8], location: &[u8], region: &[u8], name: &[u8]) -> boo
 }
 
 // Power and error are 0 or 1, and the four texts are texts.
+#[tactic(auto, unfolding(crate::specs::Rules::is_filled))]
 fn is_filled(
     power: u16,
     error: u16,
@@ -154,6 +155,7 @@ fn is_sized(product: &[u8], location: &[u8], region: &[u8], name: &[u8]) -> bool
 }
 
 // The advert writer's answer, for an area of so many bytes.
+#[tactic(auto, unfolding(crate::specs::Rules::write_verdict))]
 pub fn write_answer(
     room: usize,
     category: u8,

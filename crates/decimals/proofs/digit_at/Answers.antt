@@ -1,17 +1,11 @@
 -- `digit_at` is one of the ten digits, counted from the last; a word has no digit past the tenth.
 use Prim.Native.Nat.{ℕ, ◌+◌, ◌-◌, ◌/◌, ◌%◌, ◌^◌}
-use mathlib.Core.Path.{sym, ap, ◌∙◌}
+use mathlib.Core.Path.{ap, ◌∙◌}
 use mathlib.Core.List.{List}
 use native.Mathlib.Omega.{arith}
 use lib.ListN.{get_or}
-use Rattle.decimals.proofs.Powers.{word_fits, no_digit}
 use Rattle.decimals.proofs.Decimals.{digits_at}
 use Rattle.decimals.proofs.digit_at.Goals as goal
-
-pub returns-then-n-gt9 : goal.returns-then-n-gt9
-returns-then-n-gt9 c =
-    let a = c.args in
-    sym (no_digit a.v a.n (word_fits a.v a.n (omega arith) (omega arith)))
 
 pub returns : goal.returns
 returns c =
