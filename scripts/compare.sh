@@ -1,7 +1,7 @@
 # Sourced by tests/compare, tests/from_c and ./fuzz: the same script through the box and through the second program.
 # SECOND names another second program, to see the comparison fail.
 . scripts/machine.sh
-box=(run_program target/bin/replay)
+box=("$replay")
 second=${SECOND:-second/target/release/second}
 generate=second/target/release/generate
 room=$(mktemp -d) || exit 2

@@ -1,95 +1,47 @@
-# Sourced by the scripts of this repository: how to run and link what the kit compiles, which is for x86-64 alone.
-# On an x86-64 machine programs and archive are used as they are. On another machine the kit brings a C compiler, a linker
-# and an emulator for x86-64, and these are used.
-machine=$(uname -m)
+# Sourced by the scripts of this repository: where the kit leaves what it makes, and how C is linked with it. The kit runs on x86-64 and
+# compiles for it, and so programs and archive run, also under valgrind, as they are.
 top=$(cd "$(dirname "${BASH_SOURCE[0]}")/.." && pwd) || exit 2
-kit=$(cd "$(dirname "$(rt doc)")/.." && pwd) || exit 2
-tools=$kit/on/$machine/toolchain
 c_flags=(-std=c11 -O2 -g -Wall -Wextra -Wpedantic -Werror -Iinclude)
+advert=crates/advert/out/advert
+replay=crates/replay/out/replay
+library=crates/host/out/libhost.a
 
-# is_current FILE: it is there, and no source of a crate is newer
-is_current() { [ -e "$1" ] && [ -z "$(find "$top/crates" "$top/crates.txt" -newer "$1" -print -quit)" ]; }
+# is_current FILE: it is there, and no source of a crate is newer. What is made of the crates lies in their out/, and is no source.
+is_current() { [ -e "$1" ] && [ -z "$(find "$top/crates" "$top/crates.txt" -name out -prune -o -type f -newer "$1" -print -quit)" ]; }
 
-# run_program PROGRAM ARG..
-run_program() {
-    if [ "$machine" = x86_64 ]; then
-        "$@"
-    else
-        "$tools/bin/qemu-x86_64" "$tools/lib/ld-linux-x86-64.so.2" --library-path "$tools/lib" "$@"
-    fi
-}
-
-# c_program OUT FILE.c ARCHIVE: a C program linked with the archive that is handed out
-c_program() {
-    if [ "$machine" = x86_64 ]; then
-        gcc "${c_flags[@]}" "$2" "$3" -o "$1"
-        return
-    fi
-    gcc "${c_flags[@]}" -fsyntax-only "$2" &&
-        gcc "${c_flags[@]}" -E "$2" -o "$1.i" &&
-        "$tools/bin/clang" --target=x86_64-linux-gnu -std=c11 -O2 -c -x cpp-output "$1.i" -o "$1.o" &&
-        "$kit/on/$machine/bin/rattle-link" --target x86_64-unknown-linux-gnu --toolchain "$tools" -o "$1" "$1.o" "$3"
-}
-
-# shadow_kit STEM: what the kit's C compiler is given, seen on its way: the very module that becomes a program or an archive. STEM.s is the
-# machine code that is made of it, as text. And valgrind runs the code of its own machine only, so on another machine than x86-64 the
-# module is compiled for this machine as well, into STEM.o. The kit that does it is the installed one but for a C compiler that does all
-# of this; its folder is printed.
-shadow_kit() {
-    local shadow=$PWD/target/shadow-kit entry
-    rm -rf "$shadow" "$1.s" "$1.o"
-    mkdir -p "$shadow/on/$machine/toolchain/bin" "$(dirname "$1")"
-    for entry in "$kit"/*; do [ "${entry##*/}" = on ] || ln -s "$entry" "$shadow/"; done
-    for entry in "$kit/on/$machine"/*; do [ "${entry##*/}" = toolchain ] || ln -s "$entry" "$shadow/on/$machine/"; done
-    for entry in "$tools"/*; do [ "${entry##*/}" = bin ] || ln -s "$entry" "$shadow/on/$machine/toolchain/"; done
-    for entry in "$tools"/bin/*; do [ "${entry##*/}" = clang ] || ln -s "$entry" "$shadow/on/$machine/toolchain/bin/"; done
-    cat > "$shadow/on/$machine/toolchain/bin/clang" <<END
-#!/bin/sh
-case "\$*" in *module.bc*)
-    "$tools/bin/clang" "\$@" -S -Wno-unused-command-line-argument -o "$1.s"
-    [ $machine = x86_64 ] || "$tools/bin/clang" --target=$machine-unknown-linux-gnu -w -O3 -g -fPIC -c -x ir module.bc -o "$1.o" 2> /dev/null
-    ;;
-esac
-exec "$tools/bin/clang" "\$@"
-END
-    chmod +x "$shadow/on/$machine/toolchain/bin/clang"
-    echo "$shadow"
-}
-
-# archive CRATE: target/staticlib/libCRATE.a, its machine code as target/native/CRATE.s, and on another machine than x86-64 the same module
-# as target/native/CRATE.o, all from one proof and only where a source is newer. It is the second proof of the crate in a gate: `rt staticlib`
-# writes an archive only of what it has proved itself, and `rt ci` proves every crate that crates.txt lists and keeps no archive.
+# archive: the archive, made where there is none or a source is newer. What commands of `rt` proved before, and kept, they do not prove again.
 archive() {
-    local library=target/staticlib/lib$1.a stem=$PWD/target/native/$1 log=target/$1.archive.log home
-    is_archived "$library" "$stem" && return
+    is_current "$library" && return
     mkdir -p target
-    home=$(shadow_kit "$stem")
-    RATTLE_HOME=$home rt staticlib "$1" > "$log" 2>&1 && is_archived "$library" "$stem" && return
-    cat "$log"
+    (cd crates/host && rt lib) > target/archive.log 2>&1 < /dev/null && is_current "$library" && return
+    cat target/archive.log
     return 1
 }
 
-# is_archived ARCHIVE STEM
-is_archived() { is_current "$1" && is_current "$2.s" && { [ "$machine" = x86_64 ] || is_current "$2.o"; }; }
+# c_program OUT FILE.c: a C program linked with the archive that is handed out
+c_program() { gcc "${c_flags[@]}" "$2" "$library" -o "$1"; }
 
-# memcheck_program OUT FILE.c CRATE: the C program and the crate's archive, made before, in a form that valgrind can run
-memcheck_program() {
-    if [ "$machine" = x86_64 ]; then
-        gcc "${c_flags[@]}" "$2" "target/staticlib/lib$3.a" -o "$1"
-        return
-    fi
-    gcc "${c_flags[@]}" "$2" "target/native/$3.o" -o "$1"
-}
+# kit: its folder
+kit() { dirname "$(rt doc)"; }
 
-# native_program OUT PROGRAM: a program of this repository in a form that valgrind can run
-native_program() {
-    if [ "$machine" = x86_64 ]; then
-        cp "target/bin/$2" "$1"
-        return
-    fi
-    local shadow
-    shadow=$(shadow_kit "$PWD/$1.module")
-    rm -f "target/stamp/$2"
-    RATTLE_HOME=$shadow rt check "$2" > "$1.log" 2>&1 < /dev/null || { cat "$1.log"; return 1; }
-    gcc "$1.module.o" -o "$1"
+# rattle_over VERB CRATE FOLDER.. -- WORD..: what `rt ci` calls of the kit to check or build a crate: from nothing, over the libraries
+# NAME.rlib in these folders. Where `clock` is set, its words start the call.
+clock=()
+rattle_over() {
+    local verb=$1 crate=$2 kit uses root=lib name folder words=()
+    shift 2
+    kit=$(kit)
+    uses="std $(sed -nE "s/^$crate( staticlib)?:([^#]*).*/\2/p" crates.txt)"
+    [ ! -f "crates/$crate/src/main.rt" ] || root=main
+    ! grep -q "^$crate staticlib:" crates.txt || words=(--crate-type staticlib)
+    set -- "$kit/rlibs" "$@"
+    while [ "$1" != -- ]; do
+        folder=$(cd "$1" && pwd) || return 1
+        words+=(-L "dependency=$folder")
+        for name in $uses; do [ ! -d "$folder/$name.rlib" ] || words+=(--extern "$name=$folder/$name.rlib"); done
+        shift
+    done
+    shift
+    (cd "crates/$crate" && "${clock[@]}" "$kit/bin/rattle" "$verb" --crate-name "$crate" "src/$root.rt" "${words[@]}" --jobs 1 --links "$crate=" \
+        --antt-project "$kit/rattle/logic/antt-project.json" --logic-built "$kit/logic_built" "$@")
 }

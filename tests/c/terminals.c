@@ -24,7 +24,7 @@
 #include <time.h>
 #include <unistd.h>
 
-/* Long enough for an emulated host on a busy machine. */
+/* Long enough for a host on a busy machine. */
 #define PATIENCE_MS 10000
 
 /* Longer than the host's pause, so that it tries in vain. */
