@@ -130,6 +130,7 @@ fn refused(answer: Answer) -> Read
 }
 
 // The advert reader's answer alone.
+#[tactic(auto, unfolding(sdap::specs::Rules::read_answer, sdap::specs::Layout::fields_of))]
 pub fn read_answer(s: &[u8]) -> Answer
     ensures { result ≡ read_answer s.now }
 {

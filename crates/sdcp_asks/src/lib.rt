@@ -30,6 +30,7 @@ pub fn is_ours(m: &[u8]) -> bool
 }
 
 // Request, item and data length, in this order.
+#[tactic(auto, unfolding(crate::specs::Asks::envelope_of))]
 fn envelope_of(m: &[u8]) -> Envelope
     requires { 13 ≤ length m.now }
     ensures { result ≡ envelope_of m.now }
