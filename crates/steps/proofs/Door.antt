@@ -1,14 +1,14 @@
 -- What passes the door and is addressed to a place finds there a panel of the family that its way in speaks to: the door judges the
 -- link, and a pair or a group finds W panels only.
 use mathlib.Core.Path.{◌≡◌, refl, sym, ap, ◌∙◌}
-use mathlib.Core.Bool.{Bool, true, false, cond, ◌&&◌}
-use mathlib.Core.List.{List, []}
+use mathlib.Core.Bool.{Bool, true, false, cond, ◌&&◌, ◌||◌}
+use mathlib.Core.List.{List, [], ◌∷◌}
 use Prim.Native.Nat.{ℕ, zero, suc, ◌≤◌}
 use native.Mathlib.Omega.{arith}
 use lib.Dec.{eqb, ltb}
 use lib.ListN.{length, get_or}
-use borrow.Author.Tests.{eqb-true, ltb-false}
-use Rattle.laws.proofs.Conditions.{choose, passed as rung}
+use borrow.Author.Tests.{eqb-true, eq-eqb, ltb-false}
+use Rattle.laws.proofs.Conditions.{choose, false_true, passed as rung}
 use Rattle.terms.specs.Answers.{number_of}
 use Rattle.terms.proofs.Answers.{number_tells}
 use Rattle.terms.specs.declared.Answer.{Answer}
@@ -18,7 +18,7 @@ use Rattle.terms.specs.declared.UnitId.{UnitId}
 use Rattle.panels.specs.declared.DisplayBox.{DisplayBox}
 use Rattle.sdcp_asks.specs.Asks.{group_of, unit_of}
 use Rattle.steps.specs.Messages.{Message, rs232c, kjw, tcp, udp, Name, nobody, a_w, a_k, names, on_link, is_w, is_k}
-use Rattle.steps.specs.Addressing.{has_ids, is_id, is_pair, by_tcp, target, is_called, addressed, pair_number}
+use Rattle.steps.specs.Addressing.{has_ids, is_id, is_pair, by_tcp, target, is_called, any_called, addressed, pair_number}
 use Rattle.steps.specs.Step.{if_open, to_nobody, door, Outcome, passed, refused, step}
 use Rattle.steps.proofs.Finding.{found}
 
@@ -150,3 +150,44 @@ its_family ns (rs232c l m area) i d a = link_is is_w ns l i a (door_passed ns (b
 its_family ns (kjw l m area) i d a = link_is is_k ns l i a (door_passed ns (by_kjw m) d).link_fits
 its_family ns (tcp l m area) i d a = tcp_w ns l m i (door_passed ns (by_tcp_lem m) d).link_fits a
 its_family ns (udp m) i d a = called_w m (get_or ns i nobody) a
+
+-- ---- what passes the door is addressed to a place
+
+on_place : (f : Name → Bool) (ns : List Name) (l : ℕ) → f nobody ≡ false → f (on_link ns l) ≡ true → (i : ℕ) × (eqb l (suc i) ≡ true)
+on_place f ns zero n e = absurd (false_true (sym n ∙ e))
+on_place f ns (suc i) n e = (i, eq-eqb (suc i) (suc i) refl)
+
+some_called : (m : List ℕ) (ns : List Name) → any_called m ns ≡ true → (i : ℕ) × (is_called m (get_or ns i nobody) ≡ true)
+some_called m [] e = absurd (false_true e)
+some_called m (x ∷ ns) e = go (is_called m x) refl e (some_called m ns)
+  where
+    go : (c : Bool) → is_called m x ≡ c → (c || any_called m ns) ≡ true → (any_called m ns ≡ true → (i : ℕ) × (is_called m (get_or ns i nobody) ≡ true))
+        → (i : ℕ) × (is_called m (get_or (x ∷ ns) i nobody) ≡ true)
+    go true c e r = (0, c)
+    go false c e r = let t = r e in (suc t.0, t.1)
+
+-- one that is refused where nobody is addressed is not let through
+nobody_not_done : (m : List ℕ) → to_nobody m ≡ Done → ⊥
+nobody_not_done m e = false_true (sym (nobody_shut m) ∙ ap (λ (a : Answer). eqb (number_of a) 0) e)
+
+open_rest : (area : List ℕ) (fits : Bool) (rest : Answer) → if_open area fits rest ≡ Done → rest ≡ Done
+open_rest area fits rest e = go fits (rung (ltb (length area) 512) AreaTooSmall (cond fits rest NoSuchPanel) Done (λ q. let z : ◌≡◌ {A = ℕ} 1 0 = ap number_of q in omega arith) e).1
+  where
+    go : (f : Bool) → cond f rest NoSuchPanel ≡ Done → rest ≡ Done
+    go true q = q
+    go false q = absurd (let z : ◌≡◌ {A = ℕ} 2 0 = ap number_of q in omega arith)
+
+tcp_target : (m area : List ℕ) (fits : Bool) (t : ℕ) → if_open area fits (cond (eqb t 0) (to_nobody m) Done) ≡ Done → (i : ℕ) × (eqb t (suc i) ≡ true)
+tcp_target m area fits zero e = absurd (nobody_not_done m (open_rest area fits (to_nobody m) e))
+tcp_target m area fits (suc i) e = (i, eq-eqb (suc i) (suc i) refl)
+
+pub meets : (ns : List Name) (m : Message) → door ns m ≡ Done → (i : ℕ) × (addressed ns m i ≡ true)
+unfolding addressed target door
+meets ns (rs232c l m area) d = on_place is_w ns l refl (door_passed {l = l} {area = area} ns (by_rs232c m) d).link_fits
+meets ns (kjw l m area) d = on_place is_k ns l refl (door_passed {l = l} {area = area} ns (by_kjw m) d).link_fits
+meets ns (tcp l m area) d = tcp_target m area (is_w (on_link ns l)) (by_tcp ns l m) d
+meets ns (udp m) d = go (any_called m ns) refl d
+  where
+    go : (c : Bool) → any_called m ns ≡ c → cond c Done (to_nobody m) ≡ Done → (i : ℕ) × (is_called m (get_or ns i nobody) ≡ true)
+    go true c e = some_called m ns c
+    go false c e = absurd (nobody_not_done m e)

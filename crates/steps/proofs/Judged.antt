@@ -24,7 +24,6 @@ use Rattle.rs232c_asks.specs.Asks as serialAsks
 use Rattle.rs232c_asks.proofs.Envelopes as serialEnvelopes
 use Rattle.rs232c.specs.Replies as serial
 use Rattle.rs232c_asks.specs.declared.Order as serialOrder
-use Rattle.rs232c_asks.specs.declared.Order.TheVariants as serialOrders
 use Rattle.rs232c_asks.specs.declared.Heard as serialHeard
 use Rattle.rs232c_asks.specs.declared.Heard.TheVariants as serialIs
 use Rattle.sdcp_asks.specs.Asks as packetAsks

@@ -7,6 +7,7 @@ pub mod Bench
 pub mod Checks
 pub mod Door
 pub mod Ended
+pub mod Exact
 pub mod Finding
 pub mod Judged
 pub mod Notices
@@ -24,5 +25,6 @@ pub mod Standins
 pub mod Status
 pub mod Stays
 pub mod Turns
+pub mod Used
 pub mod Validity
 pub mod Witness

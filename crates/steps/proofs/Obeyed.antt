@@ -1,6 +1,6 @@
 -- What is understood is carried out on the record, by each protocol: the panel that takes its turn carries it out, and of a panel a turn
 -- touches one record alone.
-use Prim.Native.Nat.{ℕ, ◌≤◌}
+use Prim.Native.Nat.{ℕ, ◌<◌, ◌≤◌}
 use mathlib.Core.Path.{◌≡◌, ap, ◌∙◌}
 use mathlib.Core.Bool.{true}
 use mathlib.Core.List.{List}
@@ -36,8 +36,9 @@ use Rattle.rs232c.proofs.AskedBack as serialBack
 use Rattle.steps.specs.Messages.{Message, rs232c, kjw, tcp, udp, names}
 use Rattle.steps.specs.Addressing.{addressed}
 use Rattle.steps.specs.Step.{with_w, with_k, turn, panel_at, step}
-use Rattle.steps.proofs.Door.{by_rs232c, by_kjw, by_tcp_lem as on_link}
-use Rattle.steps.proofs.Turns.{Reaches, has_room, done_reaches, takes}
+use Rattle.steps.proofs.Door.{by_rs232c, by_kjw, by_tcp_lem as on_link, meets}
+use Rattle.steps.proofs.Turns.{Reaches, has_room, done_passes, done_reaches, takes}
+use Rattle.steps.proofs.Validity.{its_own}
 use Rattle.steps.proofs.Only.{only_0}
 
 -- ---- KJW
@@ -107,3 +108,11 @@ accepted_stands b (udp m) i d a =
     let t = (only_0 b (udp m) (ap number_of d)).5 in
     let h = cast_heard m t.0 t.1 in
     (t.0, h, obeyed m t.0 by_udp h (done_reaches b (udp m) i d a))
+
+-- and there is such a panel: 0 is never said where nobody carried the order out
+pub accepted_somewhere : (b : DisplayBox) (m : Message)
+    → (step b m).answer ≡ Done
+    → (i : ℕ) × (i < b.count) × (addressed (names b) m i ≡ true) × Carried m (panel_at i b) (panel_at i (step b m).box)
+accepted_somewhere b m d =
+    let t = meets (names b) m (done_passes b m d) in
+    (t.0, (its_own (done_reaches b m t.0 d t.1)).0, t.1, accepted_stands b m t.0 d t.1)

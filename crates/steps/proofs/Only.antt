@@ -334,6 +334,13 @@ module _ (b : DisplayBox) where
   each_checked (tcp l m area) = omega arith
   each_checked (udp m) = omega arith
 
+  -- each check has its condition, and each condition its check
+  pub one_check_each : (m : Message) → length (conditions b m) ≡ length checks
+  one_check_each (rs232c l m area) = omega arith
+  one_check_each (kjw l m area) = omega arith
+  one_check_each (tcp l m area) = omega arith
+  one_check_each (udp m) = omega arith
+
 -- ---- a part's number among the checks
 
 check_of : (p : Part) → (k : ℕ) × (4 ≤ k) × (k < length checks) × (get_or checks k 0 ≡ part_number p)

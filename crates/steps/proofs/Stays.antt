@@ -1,11 +1,12 @@
 -- What was not ordered stays: every panel takes its turn or is left, and a turn changes only what its message sets.
 use Prim.Native.Nat.{ℕ}
 use mathlib.Core.Path.{◌≡◌, refl, sym, ap, ◌∙◌}
-use mathlib.Core.Bool.{Bool, true, false, not, ◌&&◌, ◌||◌}
+use mathlib.Core.Bool.{Bool, true, false, cond, not, ◌&&◌, ◌||◌}
 use mathlib.Core.List.{List, [], ◌∷◌}
 use lib.Dec.{eqb}
 use lib.ListN.{length, get_or}
 use borrow.Author.Tests.{eqb-false, not-true}
+use Rattle.laws.specs.Lists.{every}
 use Rattle.laws.proofs.Conditions.{false_true, and_first, and_second}
 use Rattle.turns.specs.Turns.{Turn, taken}
 use Rattle.turns.proofs.Turns.{either as behind}
@@ -26,11 +27,12 @@ use Rattle.sdcp_asks.specs.Asks.{heard_of, cast_of}
 use Rattle.sdcp.specs.Replies as packets
 use Rattle.sdcp_asks.specs.declared.Heard.{Heard}
 use Rattle.sdcp_asks.specs.declared.Heard.TheVariants.{Refused, Broken, NotUnderstood, Understood}
-use Rattle.steps.specs.Messages.{Message, rs232c, kjw, tcp, udp, names}
+use Rattle.steps.specs.Messages.{Message, rs232c, kjw, tcp, udp, Name, names}
 use Rattle.steps.specs.Addressing.{addressed}
 use Rattle.steps.specs.Step.{turn, panel_at, step}
-use Rattle.steps.specs.Run.{run}
+use Rattle.steps.specs.Run.{run, kept}
 use Rattle.steps.proofs.Turns.{either, unmeant}
+use Rattle.steps.proofs.Validity.{names_kept}
 
 -- what was heard is an order that sets name j
 abbrev pub orders_it : Heard → ℕ → Bool
@@ -63,11 +65,12 @@ sets_state (udp m) s = false
 -- what of a W record no packet changes, and what only an order that sets it does
 record Left (h : Heard) (w w' : WRecord) : Type 0 where
   told_stays : (j : ℕ) → orders_it h j ≡ false → says_of (Get j) w' ≡ says_of (Get j) w
+  spare_stays : w'.spare ≡ w.spare
   inputs_stay : w'.inputs ≡ w.inputs
   balance_stays : w'.balance ≡ w.balance
 
 unmoved : (h : Heard) (w : WRecord) → Left h w w
-unmoved h w = record { told_stays = λ j n. refl; inputs_stay = refl; balance_stays = refl }
+unmoved h w = record { told_stays = λ j n. refl; spare_stays = refl; inputs_stay = refl; balance_stays = refl }
 
 turned_left : (m : List ℕ) (h : Heard) (w : WRecord) → Left h w (packets.turned m h w).after
 unfolding packets.turned
@@ -76,7 +79,7 @@ turned_left m (Broken p) w = unmoved (Broken p) w
 turned_left m NotUnderstood w = unmoved NotUnderstood w
 turned_left m (Understood o) w =
     let s = wordStays.stays o w in
-    record { told_stays = s.told_stays; inputs_stay = s.inputs_stay; balance_stays = s.balance_stays }
+    record { told_stays = s.told_stays; spare_stays = s.spare_stays; inputs_stay = s.inputs_stay; balance_stays = s.balance_stays }
 
 packet_left : (room : ℕ) (m : List ℕ) (w : WRecord) → Left (heard_of m) w (taken room (packets.turn_of m) w).after
 packet_left room m w = behind (λ (t : Turn WRecord). Left (heard_of m) w t.after) room (packets.turn_of m) w (unmoved (heard_of m) w) (turned_left m (heard_of m) w)
@@ -132,6 +135,19 @@ turn_value (udp m) p s n = refl
 pub value_stays : (b : DisplayBox) (m : Message) (i : ℕ) (s : State) → sets_state m s ≡ false → value_of s (panel_at i (step b m).box).k ≡ value_of s (panel_at i b).k
 value_stays b m i s n = either (λ (p : Panel). value_of s p.k ≡ value_of s (panel_at i b).k) b m i refl (turn_value m (panel_at i b) s n)
 
+turn_spares : (m : Message) (p : Panel) → ((turn m p).after.spare ≡ p.spare) × ((turn m p).after.w.spare ≡ p.w.spare)
+unfolding turn
+turn_spares (rs232c l m area) p = (refl, (serialStays.stays (length area) m p.w).spare_stays)
+turn_spares (kjw l m area) p = (refl, refl)
+turn_spares (tcp l m area) p = (refl, (packet_left (length area) m p.w).spare_stays)
+turn_spares (udp m) p = (refl, (turned_left m (cast_of m) p.w).spare_stays)
+
+-- the spare bytes, which stand where C would pad, stay whatever comes
+pub spares_stay : (b : DisplayBox) (m : Message) (i : ℕ)
+    → ((panel_at i (step b m).box).spare ≡ (panel_at i b).spare) × ((panel_at i (step b m).box).w.spare ≡ (panel_at i b).w.spare)
+spares_stay b m i =
+    either (λ (p : Panel). (p.spare ≡ (panel_at i b).spare) × (p.w.spare ≡ (panel_at i b).w.spare)) b m i (refl, refl) (turn_spares m (panel_at i b))
+
 -- ---- over a run
 
 -- none of the messages that are addressed to place i, as addressing stands when each comes, is one that sets
@@ -176,3 +192,15 @@ inputs_last ms b i e =
 -- the value of a KJW state
 pub value_lasts : (s : State) (ms : List Message) (b : DisplayBox) (i : ℕ) → spared (λ (m : Message). sets_state m s) i b ms ≡ true → value_of s (panel_at i (run b ms)).k ≡ value_of s (panel_at i b).k
 value_lasts s ms b i e = run_stays (λ (p : Panel). value_of s p.k) (λ (m : Message). sets_state m s) (λ c m k n. value_stays c m k s n) ms b i e
+
+-- that none of the messages addressed to a place sets is said of those that are kept for it
+pub spared_is : (f : Message → Bool) (i : ℕ) (ms : List Message) (b : DisplayBox) → spared f i b ms ≡ every (λ (m : Message). not (f m)) (kept i (names b) ms)
+spared_is f i [] b = refl
+spared_is f i (m ∷ ms) b =
+    ap (λ (t : Bool). not (addressed (names b) m i && f m) && t) (spared_is f i ms (step b m).box ∙ ap (λ (ns : List Name). every (λ (x : Message). not (f x)) (kept i ns ms)) (names_kept b m))
+    ∙ go (addressed (names b) m i)
+  where
+    go : (x : Bool)
+        → (not (x && f m) && every (λ (y : Message). not (f y)) (kept i (names b) ms)) ≡ every (λ (y : Message). not (f y)) (cond x (m ∷ kept i (names b) ms) (kept i (names b) ms))
+    go true = refl
+    go false = refl

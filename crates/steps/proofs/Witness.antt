@@ -2,6 +2,7 @@
 -- and two that do for panel 3, a K panel; by computation.
 use Prim.Native.Nat.{ℕ}
 use mathlib.Core.Path.{◌≡◌, refl, sym, ap, ◌∙◌}
+use mathlib.Core.Bool.{true, false}
 use mathlib.Core.List.{List, [], ◌∷◌, ◌++◌}
 use native.Mathlib.Omega.{arith}
 use lib.Dec.{lit<}
@@ -19,6 +20,8 @@ use Rattle.steps.specs.Run.{Got, run, kept, replies}
 use Rattle.steps.proofs.Opened.{opened}
 use Rattle.steps.proofs.Bench.{lent, packet, line}
 use Rattle.steps.proofs.Alone.{demand_3_configured}
+use Rattle.kjw_sets.specs.declared.State.TheVariants.{Volume}
+use Rattle.steps.proofs.Stays.{sets, bears, sets_state, spared}
 
 -- W 1/1, W 1/2, K, W 2/1, W 2/2, K, W 3/1, W 1/3
 abbrev eight : List ℕ
@@ -137,3 +140,19 @@ pub k_alike : ((panel_at 2 (run start four)).k ≡ with_volume 40 (with_power 1 
 k_alike =
     let same = demand_3_configured eight 2 three four (lit< tt) k_kept_alike in
     (ap (λ (p : Panel). p.k) (sym same.0) ∙ k_ends.2, sym same.1 ∙ k_ends.3)
+
+-- ---- "next or later": what does not set a panel's VOLUME, or its white balance, and what does
+
+abbrev others : List Message
+others = udp (to 1 0xff (ascii "STATset CHROMA 7")) ∷ tcp 2 (to 1 1 (ascii "STATset VOLUME 99")) room ∷ kjw 3 (line "*SCVOLU0000000000000040") room ∷ remote ∷ ask ∷ []
+
+pub spares : (spared (λ (m : Message). sets m 2) 1 start others ≡ true)
+    × (spared (bears 0x40) 1 start others ≡ true)
+    × (spared (λ (m : Message). sets m 2) 1 start (remote ∷ call ∷ []) ≡ false)
+unfolding opened
+spares = (refl, refl, refl)
+
+pub k_spares : (spared (λ (m : Message). sets_state m Volume) 2 start (power ∷ kjw 6 (line "*SCVOLU0000000000000007") room ∷ all ∷ how_loud ∷ []) ≡ true)
+    × (spared (λ (m : Message). sets_state m Volume) 2 start (power ∷ loud ∷ []) ≡ false)
+unfolding opened
+k_spares = (refl, refl)
