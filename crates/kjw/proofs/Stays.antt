@@ -1,12 +1,13 @@
 -- What was not ordered stays: an order writes the numbers of its own state alone, and a state's value reads its own numbers alone.
-use mathlib.Core.Path.{◌≡◌, refl, ap}
-use mathlib.Core.Bool.{Bool, false}
+use mathlib.Core.Path.{◌≡◌, refl, sym, ap, ◌∙◌}
+use mathlib.Core.Bool.{Bool, true, false}
 use mathlib.Core.List.{List, [], ◌∷◌}
-use Prim.Native.Nat.{ℕ}
+use Prim.Native.Nat.{ℕ, zero, suc}
 use lib.Dec.{eqb}
 use lib.ListN.{get_or}
 use lib.Seq.{get_or-set_other}
-use borrow.Author.Tests.{eqb-false}
+use borrow.Author.Tests.{eqb-true, eqb-false}
+use Rattle.laws.proofs.Conditions.{false_true}
 use Rattle.turns.specs.Turns.{Turn, taken}
 use Rattle.turns.proofs.Turns.{either}
 use Rattle.panels.specs.declared.KRecord.{KRecord}
@@ -91,3 +92,42 @@ turn_stays (Understood o) s k n = value_by_row s k (carried o k) (row_stays o k 
 pub stays : (room : ℕ) (m : List ℕ) (s : State) (k : KRecord) → sets_state (heard_of m) s ≡ false → value_of s (taken room (turn_of m) k).after ≡ value_of s k
 unfolding turn_of
 stays room m s k n = either (λ (t : Turn KRecord). value_of s t.after ≡ value_of s k) room (turn_of m) k refl (turn_stays (heard_of m) s k n)
+
+-- ---- what a KJW frame sets: an order that was understood, and one state alone
+
+pub sets_understood : (h : Heard) (s : State) → sets_state h s ≡ true → (o : Order) × (h ≡ Understood o)
+sets_understood (Refused a) s e = absurd (false_true e)
+sets_understood NotUnderstood s e = absurd (false_true e)
+sets_understood (Understood o) s e = (o, refl)
+
+state_at : ℕ → State
+state_at zero = Power
+state_at (suc zero) = AudioMute
+state_at (suc (suc zero)) = PictureMute
+state_at (suc (suc (suc zero))) = Volume
+state_at (suc (suc (suc (suc zero)))) = Input
+state_at (suc (suc (suc (suc (suc n))))) = Scene
+
+state_placed : (s : State) → state_at (place_of s) ≡ s
+unfolding state_at
+state_placed Power = refl
+state_placed AudioMute = refl
+state_placed PictureMute = refl
+state_placed Volume = refl
+state_placed Input = refl
+state_placed Scene = refl
+
+pub sets_one : (o : Order) (s t : State) → sets_state (Understood o) s ≡ true → sets_state (Understood o) t ≡ true → s ≡ t
+sets_one o s t e f =
+    let p = eqb-true (place_of s) (place_set o) e in
+    let q = eqb-true (place_of t) (place_set o) f in
+    sym (state_placed s) ∙ ap state_at (p ∙ sym q) ∙ state_placed t
+
+-- and neither an enquiry nor a button that does nothing sets any
+pub asks_none : (s t : State) → (sets_state (Understood (Ask s)) t ≡ false) × (sets_state (Understood Pass) t ≡ false)
+asks_none s Power = (refl, refl)
+asks_none s AudioMute = (refl, refl)
+asks_none s PictureMute = (refl, refl)
+asks_none s Volume = (refl, refl)
+asks_none s Input = (refl, refl)
+asks_none s Scene = (refl, refl)

@@ -7,7 +7,7 @@ use native.Mathlib.Omega.{arith}
 use lib.Count.{ones}
 use lib.Dec.{eqb}
 use lib.ListN.{length, drop, length-drop}
-use borrow.Author.Tests.{eqb-true}
+use borrow.Author.Tests.{eqb-true, eq-eqb}
 use Rattle.laws.specs.Lists.{listed}
 use Rattle.laws.proofs.Conditions.{and_first, and_second, choose}
 use Rattle.terms.specs.Answers.{number_of}
@@ -101,3 +101,37 @@ pub values_counted : (m : List ℕ) (s mask : ℕ) → heard_of m ≡ Understood
 values_counted m s mask e =
     let n = (understood_known m s (Levels mask) e).1 in
     pairs_counted (drop 1 (data_of m)) (ones (mask % 64)) (simp length-drop (omega (arith, n)))
+
+-- and of a 40h its mask is the first data byte
+abbrev pub Marked : List ℕ → Heard → Type 0
+Marked bytes (Refused a) = Unit {0}
+Marked bytes (Broken s p) = Unit {0}
+Marked bytes (NotUnderstood s) = Unit {0}
+Marked bytes (Understood s (Config marks byte)) = Unit {0}
+Marked bytes (Understood s (Select byte)) = Unit {0}
+Marked bytes (Understood s (Levels mask)) = first bytes ≡ mask
+Marked bytes (Understood s (Sense which)) = Unit {0}
+Marked bytes (Understood s Remote) = Unit {0}
+
+module _ (source code : ℕ) (bytes : List ℕ) where
+  command_marked : Marked bytes (command_of source code bytes)
+  unfolding command_of config_command select_command levels_command sense_command remote_command
+  command_marked =
+      choose (Marked bytes) (eqb code 0x21) _ _ (λ e. choose (Marked bytes) (eqb (length bytes) 2 && config_good (first bytes) (second bytes)) _ _ (λ e. tt) (λ e. tt))
+      (λ e. choose (Marked bytes) (eqb code 0x22) _ _ (λ e. choose (Marked bytes) (eqb (length bytes) 1 && select_good (first bytes)) _ _ (λ e. tt) (λ e. tt))
+      (λ e. choose (Marked bytes) (eqb code 0x40) _ _ (λ e. choose (Marked bytes) (eqb (length bytes) (1 + 2 * ones (first bytes % 64))) _ _ (λ e. refl) (λ e. tt))
+      (λ e. choose (Marked bytes) (eqb code 0x61) _ _ (λ e. choose (Marked bytes) (eqb (length bytes) 1 && (eqb (first bytes) 1 || eqb (first bytes) 2)) _ _ (λ e. tt) (λ e. tt))
+      (λ e. choose (Marked bytes) (eqb code 0x6e) _ _ (λ e. choose (Marked bytes) (eqb (length bytes) 0) _ _ (λ e. tt) (λ e. tt)) (λ e. tt)))))
+
+pub heard_marked : (m : List ℕ) → Marked (data_of m) (heard_of m)
+heard_marked m = by_rungs (Marked (data_of m)) m tt tt (λ p w. tt) (command_marked (source_of m) (code_of m) (data_of m))
+
+-- and the other way: of a command this is said of one order alone
+pub known_is : (source code : ℕ) (bytes : List ℕ) (o : Order) → Known code bytes (Understood source o) → Marked bytes (Understood source o)
+    → command_of source code bytes ≡ Understood source o
+unfolding command_of config_command select_command levels_command sense_command remote_command
+known_is source code bytes (Config marks byte) k f = rw (k.0, k.1, k.2)
+known_is source code bytes (Select byte) k f = rw (k.0, k.1, k.2)
+known_is source code bytes (Levels mask) k f = rw (k.0, f, eq-eqb (length bytes) (1 + 2 * ones (mask % 64)) k.1)
+known_is source code bytes (Sense which) k f = rw (k.0, k.1, k.2)
+known_is source code bytes Remote k f = rw (k.0, k.1)
