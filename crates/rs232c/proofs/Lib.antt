@@ -5,3 +5,4 @@ mod Examples
 pub mod Validity
 pub mod Refusals
 pub mod Stays
+pub mod Exact
