@@ -3,4 +3,5 @@ pub mod Determined
 mod Examples
 pub mod Lengths
 pub mod Round
+pub mod Again
 pub mod Texts

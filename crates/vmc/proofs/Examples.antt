@@ -1,7 +1,7 @@
 -- The bench's VMC words, words that nearly are some, and one of each kind that is understood, by computation.
-use Prim.Native.Nat.{ℕ}
+use Prim.Native.Nat.{ℕ, zero, suc}
 use mathlib.Core.Path.{◌≡◌, refl}
-use mathlib.Core.Bool.{Bool, true, false}
+use mathlib.Core.Bool.{Bool, true, false, cond}
 use mathlib.Core.List.{List, [], ◌∷◌, ◌++◌, map}
 use lib.IntN.{pos, negsuc}
 use lib.ListN.{get_or, set, replicate}
@@ -16,10 +16,12 @@ use Rattle.vmc.specs.Orders.{with_settings, carried, says_of}
 use Rattle.trimming.specs.Trimming.{unterminated, unspaced, trimmed}
 use Rattle.vmc_asks.specs.Asks.{shift_order, value_order, read_set, read_get, read_words, read_data}
 use Rattle.vmc_tells.specs.Texts.{value_words, shift_words, set_words, move_words, text_of}
+use Rattle.vmc_asks.specs.declared.Order.{Order}
 use Rattle.vmc_asks.specs.declared.Order.TheVariants.{Set, Shift, Reset, Get}
 use Rattle.vmc_tells.specs.declared.Says.TheVariants.{Value, Offset}
 use Rattle.vmc_asks.specs.declared.Words.{Words}
 use Rattle.vmc_asks.specs.declared.Words.TheVariants.{Understood, NotUnderstood}
+use Rattle.vmc.proofs.AskedBack.{touches}
 
 -- the record after some words, and the words that then go back; words that are not understood do neither
 after : Words → WRecord → WRecord
@@ -218,3 +220,13 @@ strange d = is_strange (read_data d)
 none_taken : every strange (numbers_off ++ spacing_off ++ words_off ++ ends_off ++ nothing_left) ≡ true
 unfolding numbers_off spacing_off words_off ends_off nothing_left is_strange strange read_data read_words trimmed unspaced unterminated read_set read_get value_order up_to is_numeral leads_zero is_digit decimal led_by named_by chosen_by shift_order
 none_taken = refl
+
+-- ---- what a VMC order sets, of the 23 names: its own; ON for a flip word all three, and OFF its own; RESET both shifts; a question none
+
+abbrev touched_in : ℕ → Order → List ℕ
+touched_in zero o = []
+touched_in (suc n) o = touched_in n o ++ cond (touches o n) (n ∷ []) []
+
+touched : map (touched_in 23) (Set 2 40 ∷ Set 3 2 ∷ Set 18 1 ∷ Set 18 0 ∷ Set 19 1 ∷ Set 20 0 ∷ Shift 0 (pos 5) ∷ Shift 1 (pos 0) ∷ Reset ∷ Get 2 ∷ Get 18 ∷ Get 21 ∷ []) ≡
+    (2 ∷ []) ∷ (3 ∷ []) ∷ (18 ∷ 19 ∷ 20 ∷ []) ∷ (18 ∷ []) ∷ (18 ∷ 19 ∷ 20 ∷ []) ∷ (20 ∷ []) ∷ (21 ∷ []) ∷ (22 ∷ []) ∷ (21 ∷ 22 ∷ []) ∷ [] ∷ [] ∷ [] ∷ []
+touched = refl
