@@ -51,6 +51,11 @@ asks_one c m e = false_true (ap is_button (sym e) ∙ of_each (λ (r : Code). is
 abbrev pub numbers : List ℕ
 numbers = map (λ (c : Code). c.code) codes
 
+-- each of them is a button's: `unlisted` leaves out no more
+pub listed_button : (n : ℕ) → listed numbers n ≡ true → button_of n ≡ Unlisted → ⊥
+unfolding button_of asked_in
+listed_button n e u = false_true (ap is_button (sym u) ∙ listed_every (λ (x : ℕ). is_button (button_of x)) numbers n refl e)
+
 unlisted_in : (cs : List Code) (n : ℕ) → listed (map (λ (c : Code). c.code) cs) n ≡ false → asked_in cs n ≡ Unlisted
 unfolding asked_in
 unlisted_in [] n e = refl
