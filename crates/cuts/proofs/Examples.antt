@@ -13,13 +13,14 @@ use Rattle.receiver.specs.Calls.{holding}
 use Rattle.receiver.specs.Pieces.{joined}
 use Rattle.receiver.proofs.Pieces.{fed_feeds}
 use Rattle.receiver.proofs.Examples.{opened}
-use Rattle.steps.specs.Messages.{tcp}
+use Rattle.steps.specs.Messages.{Message, tcp, udp}
 use Rattle.steps.specs.Step.{panel_at}
 use Rattle.steps.specs.Run.{run}
 use Rattle.steps.proofs.Bench.{box, packet}
 use Rattle.steps.proofs.Opened as step
 use Rattle.cuts.specs.Exchanges.{Wired, Exchange, CutExchanges}
 use Rattle.cuts.specs.Exchanges.CutExchanges.{one, more}
+use Rattle.cuts.specs.Events.{Event, message, piece, messages_in, receivers_after}
 use Rattle.cuts.proofs.Cutting.{room, gives}
 
 abbrev held : Receiver
@@ -73,3 +74,21 @@ in_pieces =
 pub set_stands : get_or (panel_at 0 end.box).w.settings 2 0 ≡ 40
 unfolding step.opened
 set_stands = refl
+
+-- ---- two links, each with a receiver of its own, and a whole message between the pieces of their packets
+
+abbrev call : Message
+call = udp (packet 1 0xff 0 0 0x11 (ascii "STATset VOLUME 40"))
+
+abbrev life : List Event
+life =
+    piece 1 (take 20 set) (λ k. room) ∷ piece 2 (take 5 like) (λ k. room) ∷ message call
+    ∷ piece 1 (drop 20 set) (λ k. room) ∷ piece 2 (drop 5 like ++ 0x03 ∷ []) (λ k. room) ∷ []
+
+pub two_links : messages_in (λ k. holding []) life ≡ call ∷ tcp 1 set room ∷ tcp 2 like room ∷ []
+unfolding opened
+two_links = refl
+
+pub two_receivers : (receivers_after (λ k. holding []) life 1 ≡ holding []) × (receivers_after (λ k. holding []) life 2 ≡ holding (0x03 ∷ []))
+unfolding opened
+two_receivers = (refl, refl)

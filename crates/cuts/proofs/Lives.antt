@@ -7,7 +7,7 @@ use mathlib.Core.List.{List, [], ◌∷◌, ◌++◌, append_assoc, append-nil}
 use native.Mathlib.Omega.{arith}
 use lib.Dec.{eqb}
 use lib.ListN.{length}
-use borrow.Author.Tests.{eq-eqb}
+use borrow.Author.Tests.{eq-eqb, ne_eqb}
 use Rattle.panels.specs.declared.DisplayBox.{DisplayBox}
 use Rattle.configure.specs.Configure.{configured}
 use Rattle.steps.specs.Messages.{Message, tcp, names}
@@ -64,23 +64,37 @@ messages_join l areas k (o ∷ os) us =
     let e : suc k + length os ≡ k + suc (length os) = omega arith in
     ap (tcp l o (areas k) ∷◌) (messages_join l areas (suc k) os us ∙ ap (λ (n : ℕ). as_messages l areas (suc k) os ++ as_messages l areas n us) e)
 
-messages_behind : (l : ℕ) (areas : ℕ → List ℕ) (n k : ℕ) (os : List (List ℕ)) → as_messages l areas (n + k) os ≡ as_messages l (behind n areas) k os
+pub messages_behind : (l : ℕ) (areas : ℕ → List ℕ) (n k : ℕ) (os : List (List ℕ)) → as_messages l areas (n + k) os ≡ as_messages l (behind n areas) k os
 messages_behind l areas n k [] = refl
 messages_behind l areas n k (o ∷ os) =
     let e : suc (n + k) ≡ n + suc k = omega arith in
     ap (tcp l o (areas (n + k)) ∷◌) (ap (λ (j : ℕ). as_messages l areas j os) e ∙ messages_behind l areas n (suc k) os)
 
+-- a receiver that is put in is its own link's, and every other link keeps its own
+pub own_receiver : (l : ℕ) (r : Receiver) (rs : ℕ → Receiver) → with_receiver l r rs l ≡ r
+own_receiver l r rs = rw (eq-eqb l l refl)
+
+pub other_receivers : (l : ℕ) (r : Receiver) (rs : ℕ → Receiver) (k : ℕ) → (k ≡ l → ⊥) → with_receiver l r rs k ≡ rs k
+other_receivers l r rs k n = rw (ne_eqb k l n)
+
 -- receivers that are the same at each link hand out the same messages
-with_same : (rs rs' : ℕ → Receiver) → ((k : ℕ) → rs k ≡ rs' k) → (l : ℕ) (r r' : Receiver) → r ≡ r' → (k : ℕ) → with_receiver l r rs k ≡ with_receiver l r' rs' k
+pub with_same : (rs rs' : ℕ → Receiver) → ((k : ℕ) → rs k ≡ rs' k) → (l : ℕ) (r r' : Receiver) → r ≡ r' → (k : ℕ)
+    → with_receiver l r rs k ≡ with_receiver l r' rs' k
 with_same rs rs' same l r r' e k = rw (e, same k)
 
-messages_same : (rs rs' : ℕ → Receiver) → ((k : ℕ) → rs k ≡ rs' k) → (es : List Event) → messages_in rs es ≡ messages_in rs' es
+pub messages_same : (rs rs' : ℕ → Receiver) → ((k : ℕ) → rs k ≡ rs' k) → (es : List Event) → messages_in rs es ≡ messages_in rs' es
 messages_same rs rs' e [] = refl
 messages_same rs rs' e (message m ∷ es) = ap (m ∷◌) (messages_same rs rs' e es)
 messages_same rs rs' e (piece l p areas ∷ es) =
     let a = ap (λ (r : Receiver). (fed r p).after) (e l) in
     let i = messages_same (with_receiver l (fed (rs l) p).after rs) (with_receiver l (fed (rs' l) p).after rs') (with_same rs rs' e l (fed (rs l) p).after (fed (rs' l) p).after a) es in
     ap (λ (r : Receiver). as_messages l areas 0 (fed r p).packets ++ messages_in (with_receiver l (fed (rs l) p).after rs) es) (e l) ∙ ap (as_messages l areas 0 (fed (rs' l) p).packets ++◌) i
+
+pub receivers_same : (rs rs' : ℕ → Receiver) → ((k : ℕ) → rs k ≡ rs' k) → (es : List Event) (k : ℕ) → receivers_after rs es k ≡ receivers_after rs' es k
+receivers_same rs rs' e [] k = e k
+receivers_same rs rs' e (message m ∷ es) k = receivers_same rs rs' e es k
+receivers_same rs rs' e (piece l p areas ∷ es) k =
+    receivers_same (with_receiver l (fed (rs l) p).after rs) (with_receiver l (fed (rs' l) p).after rs') (with_same rs rs' e l (fed (rs l) p).after (fed (rs' l) p).after (ap (λ (r : Receiver). (fed r p).after) (e l))) es k
 
 -- the messages of events are those of the first of them, and then those of the rest
 messages_on : (rs : ℕ → Receiver) (ds es : List Event) → messages_in rs (ds ++ es) ≡ messages_in rs ds ++ messages_in (receivers_after rs ds) es
@@ -91,7 +105,7 @@ messages_on rs (piece l p areas ∷ ds) es =
     ∙ sym (append_assoc (as_messages l areas 0 (fed (rs l) p).packets) (messages_in (with_receiver l (fed (rs l) p).after rs) ds) (messages_in (receivers_after (with_receiver l (fed (rs l) p).after rs) ds) es))
 
 -- a receiver put in twice is the last one
-with_twice : (l : ℕ) (a t : Receiver) (rs : ℕ → Receiver) (k : ℕ) → with_receiver l t rs k ≡ with_receiver l t (with_receiver l a rs) k
+pub with_twice : (l : ℕ) (a t : Receiver) (rs : ℕ → Receiver) (k : ℕ) → with_receiver l t rs k ≡ with_receiver l t (with_receiver l a rs) k
 with_twice l a t rs k = go (eqb k l)
   where
     go : (b : Bool) → cond b t (rs k) ≡ cond b t (cond b a (rs k))
@@ -118,3 +132,29 @@ pub recut : (rs : ℕ → Receiver) (ds es : List Event) (l : ℕ) (p q : List �
 recut rs ds es l p q areas =
     let n = length (fed (receivers_after rs ds l) p).packets in
     messages_on rs ds (piece l (p ++ q) areas ∷ es) ∙ ap (messages_in rs ds ++◌) (cut_first (receivers_after rs ds) es l p q areas) ∙ sym (messages_on rs ds (piece l p areas ∷ piece l q (behind n areas) ∷ es))
+
+cut_receivers : (rs : ℕ → Receiver) (es : List Event) (l : ℕ) (p q : List ℕ) (areas areas' : ℕ → List ℕ) (k : ℕ)
+    → receivers_after rs (piece l (p ++ q) areas ∷ es) k ≡ receivers_after rs (piece l p areas ∷ piece l q areas' ∷ es) k
+cut_receivers rs es l p q areas areas' k =
+    let a = (fed (rs l) p).after in
+    let t = (fed a q).after in
+    ap (λ (f : Fed). receivers_after (with_receiver l f.after rs) es k) (fed_on (rs l) p q)
+    ∙ receivers_same (with_receiver l t rs) (with_receiver l t (with_receiver l a rs)) (with_twice l a t rs) es k
+    ∙ ap (λ (r : Receiver). receivers_after (with_receiver l (fed r q).after (with_receiver l a rs)) es k) (sym (own_receiver l a rs))
+
+receivers_on : (rs : ℕ → Receiver) (ds es : List Event) → receivers_after rs (ds ++ es) ≡ receivers_after (receivers_after rs ds) es
+receivers_on rs [] es = refl
+receivers_on rs (message m ∷ ds) es = receivers_on rs ds es
+receivers_on rs (piece l p areas ∷ ds) es = receivers_on (with_receiver l (fed (rs l) p).after rs) ds es
+
+-- and so is every receiver
+pub recut_receivers : (rs : ℕ → Receiver) (ds es : List Event) (l : ℕ) (p q : List ℕ) (areas : ℕ → List ℕ) (k : ℕ)
+    → receivers_after rs (ds ++ piece l (p ++ q) areas ∷ es) k
+    ≡ receivers_after rs (ds ++ piece l p areas ∷ piece l q (behind (length (fed (receivers_after rs ds l) p).packets) areas) ∷ es) k
+recut_receivers rs ds es l p q areas k =
+    let n = length (fed (receivers_after rs ds l) p).packets in
+    let cut : List Event = piece l p areas ∷ piece l q (behind n areas) ∷ es in
+    let whole : List Event = piece l (p ++ q) areas ∷ es in
+    ap (λ (ss : ℕ → Receiver). ss k) (receivers_on rs ds whole)
+    ∙ cut_receivers (receivers_after rs ds) es l p q areas (behind n areas) k
+    ∙ sym (ap (λ (ss : ℕ → Receiver). ss k) (receivers_on rs ds cut))
