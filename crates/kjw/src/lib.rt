@@ -41,6 +41,7 @@ fn turn_over(v: u8) -> u8
 }
 
 // A volume one higher, up to its most.
+#[tactic(auto, unfolding(crate::specs::Orders::louder))]
 fn raise(v: u8) -> u8
     ensures { result ≡ louder v }
 {
@@ -157,6 +158,7 @@ fn decide(k: KRecord, h: Heard) -> Decided
 }
 
 // A message on the KJW link of a K panel.
+#[tactic(auto, using(turns::proofs::Turns::takes_small))]
 pub fn take_frame(k: KRecord, m: &[u8], area: &mut [u8]) -> Outcome
     ensures { Takes (turn_of m.now) k area.old result.after result.answer result.len area.new }
 {

@@ -12,23 +12,17 @@ use Rattle.kjw_sets.specs.declared.Heard.{Heard}
 use Rattle.kjw.specs.declared.Decided.{Decided}
 use Rattle.kjw_tells.specs.Texts.{bytes_of}
 use Rattle.kjw_tells.proofs.Lengths.{fits}
-use Rattle.turns.proofs.Turns.{takes_small, takes_turn}
+use Rattle.turns.proofs.Turns.{takes_turn}
 use Rattle.kjw.proofs.take_frame.Goals as goal
 
 asked : (k : KRecord) (m l : List ℕ) (h : Heard) (t : Decided) → l ≡ letters_of m → h ≡ heard_of m → t ≡ decided k h → turn_of m k ≡ turned l t
 unfolding turn_of
 asked k m l h t el eh et = rw (← eh, ← et, ← el)
 
-pub returns-then-area-lt512 : goal.returns-then-area-lt512
-returns-then-area-lt512 c =
-    let a = c.args in
-    let small : length a.area.now < 512 = omega arith in
-    takes_small (turn_of a.m.now) a.k a.area.now small
-
 pub returns : goal.returns
 returns c =
     let a = c.args in
-    let room : 512 ≤ length a.area.now = omega (arith, c.if-area-lt512.false) in
+    let room : 512 ≤ length a.area.now = omega arith in
     let l = c.letters_of-letters in
     let h = c.hear in
     let t = c.decide-turn in
