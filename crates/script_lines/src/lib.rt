@@ -193,6 +193,7 @@ fn is_passed_over(line: &[u8]) -> bool
 }
 
 // Which order a line is.
+#[tactic(auto, unfolding(crate::specs::Orders::order_of))]
 pub fn order_of(line: &[u8]) -> Order
     ensures { result ≡ order_of line.now }
 {

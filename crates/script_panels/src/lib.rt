@@ -30,6 +30,7 @@ pub fn answer_box(line: &[u8], out: &mut [u8]) -> Answered
 }
 
 // The box has a panel of that number.
+#[tactic(auto, unfolding(crate::specs::Panels::is_there))]
 fn is_there(count: usize, link: usize) -> bool
     ensures { result ≡ is_there count link }
 {

@@ -43,6 +43,7 @@ pub fn put_number(out: &mut [u8], at: usize, v: u32) -> usize
     to
 }
 
+#[tactic(auto, unfolding(crate::specs::Texts::glyph))]
 fn glyph_of(d: u8) -> u8
     requires { d < 16 }
     ensures { result ≡ glyph d }

@@ -9,9 +9,9 @@ pub returns-then-place-eq0 : goal.returns-then-place-eq0
 unfolding at_text
 returns-then-place-eq0 c =
     let a = c.args in
-    rw (eq-eqb a.place 0 (omega (arith, c.if-place-eq0.true))) (puts_none a.out.now a.at)
+    rw (eq-eqb a.place 0 (omega arith)) (puts_none a.out.now a.at)
 
 pub returns : goal.returns
 unfolding at_text
 returns c =
-    rw (ne_eqb c.args.place 0 (λ e. omega (arith, c.if-place-eq0.false))) c.put_number_text.ensures
+    rw (ne_eqb c.args.place 0 (λ e. omega arith)) c.put_number_text.ensures
