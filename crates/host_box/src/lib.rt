@@ -75,6 +75,7 @@ pub fn make_box(configuration: &[u8]) -> Made
 }
 
 // 1 is the RS-232C port of the link's panel, 2 its KJW link, 3 TCP on its link, 4 UDP. There is no other way in.
+#[tactic(auto, unfolding(crate::specs::Called::way_of))]
 fn way_of(number: u8) -> Entry
     ensures { result ≡ way_of number }
 {
@@ -126,6 +127,7 @@ pub fn take_message(b: DisplayBox, way: u8, link: usize, m: &[u8], area: &mut [u
 }
 
 // The panel behind a link, or all zeros where there is none.
+#[tactic(auto, unfolding(crate::specs::Called::panel_behind))]
 pub fn panel_behind(b: DisplayBox, link: usize) -> Panel
     ensures { result ≡ panel_behind b link }
 {
