@@ -40,6 +40,7 @@ pub enum Heard {
 }
 
 // First byte, destination and source.
+#[tactic(auto, unfolding(crate::specs::Asks::is_foreign))]
 fn is_foreign(m: &[u8]) -> bool
     ensures { result ≡ is_foreign m.now }
 {

@@ -23,6 +23,7 @@ fn place_of(code: u8) -> usize
 }
 
 // 21h: the connector in use afterwards.
+#[tactic(auto, unfolding(crate::specs::Inputs::used_after))]
 fn used_after(marks: u8, byte: u8, i: Inputs) -> u8
     ensures { result ≡ used_after marks byte i }
 {
