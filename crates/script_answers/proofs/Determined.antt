@@ -1,5 +1,5 @@
 -- Each promise allows one outcome: the box is the order's, and its text is put in one way.
-use mathlib.Core.Path.{◌≡◌, sym, ◌∙◌}
+use mathlib.Core.Path.{◌≡◌, sym, ap, ◌∙◌}
 use mathlib.Core.List.{List}
 use Prim.Native.Nat.{ℕ}
 use Rattle.terms.specs.declared.Answer.{Answer}
@@ -39,3 +39,7 @@ module _ (b : DisplayBox) (area : List ℕ) (r r' : Answered) (x x' : List ℕ) 
 
   pub say_reply_one : (a : Answer) (len : ℕ) (lent : List ℕ) → Answers (writes b (replied a len lent)) r area x → Answers (writes b (replied a len lent)) r' area x' → Agree r r' x x'
   say_reply_one a len lent = answers_one (writes b (replied a len lent)) area r r' x x'
+
+-- agreeing is being the same: the result, and the lent bytes
+pub agree_is : (r r' : Answered) (x x' : List ℕ) → Agree r r' x x' → (r ≡ r') × (x ≡ x')
+agree_is r r' x x' a = (ap (λ (b : DisplayBox). record { after = b; len = r.len }) a.after_same ∙ ap (λ (n : ℕ). record { after = r'.after; len = n }) a.length_same, a.area_same)

@@ -1,6 +1,7 @@
 // The orders that are messages to the box (docs/SCRIPTS.md).
 #![tactic(auto)]
 
+ghost use Rattle.std.specs.Prelude.{◌≡◌};
 ghost use Rattle.steps.specs.Messages as messages;
 ghost use Rattle.steps.specs.Step.{step};
 ghost use Rattle.ways_in.specs.Promise.{message_of};
@@ -24,7 +25,8 @@ pub fn carry(
     area: &mut [u8],
     out: &mut [u8],
 ) -> Answered
-    ensures { Answers (stepped (step b (message_of line link m.now area.old))) result out.old out.new }
+    ensures answers { Answers (stepped (step b (message_of line link m.now area.old))) result out.old out.new }
+    ensures lent { area.new ≡ (step b (message_of line link m.now area.old)).back.area }
 {
     let t = take(b, Way::By(line), link, m, area);
     let len = t.len;

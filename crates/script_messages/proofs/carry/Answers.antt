@@ -9,4 +9,8 @@ returns c =
     let a = c.args in
     let r = c.say_reply in
     let t = c.take-t in
-    subst (λ (o : Effect). Answers o r.result a.out.now r.new.out) (carried_text (linked_steps a.b a.line a.link a.m.now a.area.now t.result _ t.ensures)) r.ensures
+    let s = linked_steps a.b a.line a.link a.m.now a.area.now t.result _ t.ensures in
+    record {
+      answers = subst (λ (o : Effect). Answers o r.result a.out.now r.new.out) (carried_text s) r.ensures;
+      lent = s.area_is;
+    }
