@@ -1,6 +1,6 @@
 -- The promise allows one outcome: box and receiver are the line's, and its text is put in one way.
 use Prim.Native.Nat.{ℕ}
-use mathlib.Core.Path.{◌≡◌, sym, ◌∙◌}
+use mathlib.Core.Path.{◌≡◌, sym, ap, ◌∙◌}
 use mathlib.Core.List.{List}
 use Rattle.panels.specs.declared.DisplayBox.{DisplayBox}
 use Rattle.receiver.specs.declared.Receiver.{Receiver}
@@ -25,3 +25,12 @@ links_one o area r r' x x' p q = record {
 
 pub answer_piece_one : (b : DisplayBox) (r : Receiver) (line area : List ℕ) (a a' : Linked) (x x' : List ℕ) → Links (pieced_by b r line) a area x → Links (pieced_by b r line) a' area x' → Agree a a' x x'
 answer_piece_one b r line = links_one (pieced_by b r line)
+
+-- agreeing is being the same: the result, and the lent bytes
+pub agree_is : (r r' : Linked) (x x' : List ℕ) → Agree r r' x x' → (r ≡ r') × (x ≡ x')
+agree_is r r' x x' a = (
+  ap (λ (b : DisplayBox). record { after = b; receiver = r.receiver; len = r.len }) a.after_same
+      ∙ ap (λ (s : Receiver). record { after = r'.after; receiver = s; len = r.len }) a.receiver_same
+      ∙ ap (λ (n : ℕ). record { after = r'.after; receiver = r'.receiver; len = n }) a.length_same,
+  a.area_same,
+)

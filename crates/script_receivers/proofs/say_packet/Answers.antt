@@ -40,14 +40,14 @@ slice_bounds-carry-start c = inside c.put_bytes_text-a.ensures c.put-e.ensures
 
 pub overflow_add-result : goal.overflow_add-result
 overflow_add-result c =
-    let h = fits c.put_bytes_text-a.ensures c.put-e.ensures c.carry-t.ensures.text_is in
+    let h = fits c.put_bytes_text-a.ensures c.put-e.ensures c.carry-t.ensures.answers.text_is in
     omega (arith, h)
 
 pub returns : goal.returns
 unfolding packeted stepped writes
 returns c =
     let a = c.args in
-    let o = c.carry-t.ensures in
+    let o = c.carry-t.ensures.answers in
     let lent = ap (λ (l : List ℕ). step a.b (packet_message a.link l a.packet.now)) (throughout a.room 1024 165 c.requires) in
     record {
       box_is = o.box_is ∙ ap (λ (s : Outcome). s.box) lent;
