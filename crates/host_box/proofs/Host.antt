@@ -1,6 +1,6 @@
 -- What a host may count on at every way number: each is one of the four steps or no way at all, and each of these keeps it.
 use mathlib.Core.Path.{◌≡◌, refl, sym, ap, ◌∙◌}
-use mathlib.Core.Bool.{Bool, true, false}
+use mathlib.Core.Bool.{Bool, true, false, cond}
 use mathlib.Core.List.{List, []}
 use Prim.Native.Nat.{ℕ, ◌<◌}
 use native.Mathlib.Omega.{arith}
@@ -9,9 +9,9 @@ use lib.ListN.{length, get_or}
 use borrow.Author.Tests.{eqb-false, ltb-true, ltb-false}
 use Rattle.laws.specs.Lists.{listed}
 use Rattle.laws.proofs.Conditions.{choose}
-use Rattle.terms.specs.Answers.{answer_place}
+use Rattle.terms.specs.Answers.{number_of, answer_place}
 use Rattle.terms.specs.declared.Answer.{Answer}
-use Rattle.terms.specs.declared.Answer.TheVariants.{WrongLength, NotForUs}
+use Rattle.terms.specs.declared.Answer.TheVariants.{AreaTooSmall, NoSuchPanel, WrongLength, NotForUs}
 use Rattle.terms.proofs.Answers.{place_none}
 use Rattle.panels.specs.Records.{zero_panel}
 use Rattle.panels.specs.Valid.{valid}
@@ -114,6 +114,62 @@ module _ (b : DisplayBox) (way link : ℕ) (m area : List ℕ) where
   garbage v =
       at_every Untouched (λ msg k. untouched msg k (bad_kept b msg v) (bad_place msg k v) (bad_quiet b msg v))
       (untouched_udp (bad_kept b (udp m) v) (bad_place_udp v)) (refl, (refl, (refl, refl)))
+
+  -- with an answer's number, the box and the area as they came, no place and no reply are all that a call gives
+  abbrev pub as_it_came : ℕ → Called
+  as_it_came n = record { box = b; answer = n; place = 0; len = 0; area = area }
+
+  came : (c : Called) → Untouched c → c ≡ as_it_came c.answer
+  came c (e, (f, (g, h))) =
+      ap (λ (x : DisplayBox). record { box = x; answer = c.answer; place = c.place; len = c.len; area = c.area }) e
+      ∙ ap (λ (x : ℕ). record { box = b; answer = c.answer; place = x; len = c.len; area = c.area }) f
+      ∙ ap (λ (x : ℕ). record { box = b; answer = c.answer; place = 0; len = x; area = c.area }) g
+      ∙ ap (λ (x : List ℕ). record { box = b; answer = c.answer; place = 0; len = 0; area = x }) h
+
+  -- so a call that is answered 1 to 4 gives its answer alone
+  pub early_as_it_came : ((called b way link m area).answer ≡ 0 → ⊥) → (called b way link m area).answer < 5
+      → called b way link m area ≡ as_it_came (called b way link m area).answer
+  early_as_it_came z h = came (called b way link m area) (early_untouched z h)
+
+  -- "A box of no panels answers 3 or 4 to UDP, and 2 to other messages once check 1 is passed."
+  abbrev pub no_panels_say : Entry → ℕ
+  no_panels_say (Through (By line)) = cond (ltb (length area) 512) 1 2
+  no_panels_say (Through Udp) = cond (ltb (length m) 13) 3 4
+  no_panels_say Nowhere = 2
+
+  bad_answer : (msg : Message) → Lends link area msg → valid b ≡ false → (step b msg).answer ≡ cond (ltb (length area) 512) AreaTooSmall NoSuchPanel
+  bad_answer msg k v = go (ltb (length area) 512) refl
+    where
+      go : (t : Bool) → ltb (length area) 512 ≡ t → (step b msg).answer ≡ cond t AreaTooSmall NoSuchPanel
+      go true e = ap (λ (o : Outcome). o.answer) (too_small b link area msg k (ltb-true (length area) 512 e))
+      go false e = ap (λ (o : Outcome). o.answer) (bad_lent b link area msg v k (ltb-false (length area) 512 e))
+
+  bad_number : (msg : Message) → Lends link area msg → valid b ≡ false → number_of (step b msg).answer ≡ cond (ltb (length area) 512) 1 2
+  bad_number msg k v = ap number_of (bad_answer msg k v) ∙ go (ltb (length area) 512)
+    where
+      go : (t : Bool) → number_of (cond t AreaTooSmall NoSuchPanel) ≡ cond t 1 2
+      go true = refl
+      go false = refl
+
+  bad_number_udp : valid b ≡ false → number_of (step b (udp m)).answer ≡ cond (ltb (length m) 13) 3 4
+  unfolding to_nobody
+  bad_number_udp v = ap (λ (o : Outcome). number_of o.answer) (bad_udp b m v) ∙ go (ltb (length m) 13)
+    where
+      go : (t : Bool) → number_of (cond t WrongLength NotForUs) ≡ cond t 3 4
+      go true = refl
+      go false = refl
+
+  bad_said : valid b ≡ false → (e : Entry) → (called_by e b link m area).answer ≡ no_panels_say e
+  bad_said v (Through (By Rs232c)) = bad_number (rs232c link m area) (by_rs232c m) v
+  bad_said v (Through (By Kjw)) = bad_number (kjw link m area) (by_kjw m) v
+  bad_said v (Through (By Tcp)) = bad_number (tcp link m area) (by_tcp_lem m) v
+  bad_said v (Through Udp) = bad_number_udp v
+  bad_said v Nowhere = refl
+
+  -- such a box "is answered as a box of no panels", and that is all that the call gives
+  pub garbage_answered : valid b ≡ false → called b way link m area ≡ as_it_came (no_panels_say (way_of way))
+  unfolding called
+  garbage_answered v = came (called b way link m area) (garbage v) ∙ ap as_it_came (bad_said v (way_of way))
 
 -- and it shows no panel
 pub garbage_panel : (b : DisplayBox) (link : ℕ) → valid b ≡ false → panel_behind b link ≡ zero_panel

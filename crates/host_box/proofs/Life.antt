@@ -1,8 +1,10 @@
 -- A host's calls are a run of the step: each call is one message, or none; so what is proved of every run holds of its box and of what its calls got.
 use mathlib.Core.Path.{◌≡◌, refl, sym, ap, ◌∙◌}
-use mathlib.Core.Bool.{Bool, true, false, cond}
+use mathlib.Core.Bool.{Bool, true, false, cond, ◌&&◌}
+use lib.Dec.{leb}
 use mathlib.Core.List.{List, [], ◌∷◌}
-use Prim.Native.Nat.{ℕ, ◌<◌}
+use Prim.Native.Nat.{ℕ, suc, ◌-◌, ◌<◌}
+use native.Mathlib.Omega.{arith}
 use lib.ListN.{length}
 use Rattle.laws.proofs.Lists.{same_self}
 use Rattle.terms.specs.Answers.{number_of, answer_place}
@@ -10,11 +12,15 @@ use Rattle.panels.specs.declared.DisplayBox.{DisplayBox}
 use Rattle.configure.specs.Configure.{configured}
 use Rattle.steps.specs.Messages.{Message, rs232c, kjw, tcp, udp, names}
 use Rattle.steps.specs.Addressing.{addressed}
-use Rattle.steps.specs.Step.{panel_at, step}
+use Rattle.steps.specs.Step.{Outcome, panel_at, step}
 use Rattle.steps.specs.Run.{Got, got_by, run, kept, replies}
 use Rattle.steps.proofs.Alone.{eight_places, demand_3}
-use Rattle.steps.proofs.Validity.{names_kept}
-use Rattle.host_box.specs.Called.{way_of, called_by, called}
+use Rattle.steps.proofs.Validity.{names_kept, valid_kept, bad_kept}
+use Rattle.steps.proofs.Door.{by_door}
+use Rattle.panels.specs.Records.{zero_panel}
+use Rattle.panels.specs.Valid.{valid}
+use Rattle.panels.specs.declared.Panel.{Panel}
+use Rattle.host_box.specs.Called.{way_of, called_by, called, panel_behind}
 use Rattle.host_box.specs.Life.{Call, after_call, life, and_by, and_that, messages_of, is_for_by, CallGot, with_area, without_area, got_through, gots}
 use Rattle.addresses.specs.declared.Line.TheVariants.{Rs232c, Kjw, Tcp}
 use Rattle.ways_in.specs.declared.Way.TheVariants.{By, Udp}
@@ -40,19 +46,19 @@ life_is_run b (k ∷ ks) = life_is_run (after_call b k) ks ∙ one_call b (messa
 -- ---- what the calls got
 
 -- what a host is told of what a message got
-abbrev told : Message → Got → CallGot
+abbrev pub told : Message → Got → CallGot
 told (rs232c l m area) g = with_area (number_of g.answer) (answer_place g.answer) g.back.len g.back.area
 told (kjw l m area) g = with_area (number_of g.answer) (answer_place g.answer) g.back.len g.back.area
 told (tcp l m area) g = with_area (number_of g.answer) (answer_place g.answer) g.back.len g.back.area
 told (udp m) g = without_area (number_of g.answer) (answer_place g.answer) g.back.len true
 
-abbrev told_all : List Message → List Got → List CallGot
+abbrev pub told_all : List Message → List Got → List CallGot
 told_all [] gs = []
 told_all (m ∷ ms) [] = []
 told_all (m ∷ ms) (g ∷ gs) = told m g ∷ told_all ms gs
 
 module _ (i : ℕ) where
-  abbrev ToldIn : DisplayBox → List Message → List CallGot → Type 0
+  abbrev pub ToldIn : DisplayBox → List Message → List CallGot → Type 0
   ToldIn b ms gs = gs ≡ told_all (kept i (names b) ms) (replies i b ms)
 
   -- a message that got this stands in front
@@ -76,7 +82,7 @@ module _ (i : ℕ) where
   got_by_entry b k ms ks Nowhere r = r b
 
   -- what a host's calls got is what the messages of the run got
-  gots_told : (ks : List Call) (b : DisplayBox) → ToldIn b (messages_of ks) (gots i b ks)
+  pub gots_told : (ks : List Call) (b : DisplayBox) → ToldIn b (messages_of ks) (gots i b ks)
   unfolding called
   gots_told [] b = refl
   gots_told (k ∷ ks) b = got_by_entry b k (messages_of ks) ks (way_of k.way) (λ c. gots_told ks c)
@@ -102,3 +108,51 @@ pub lives_alone_configured : (c : List ℕ) (i : ℕ) (ks ls : List Call) → i 
     → kept i (names (configured c).made) (messages_of ks) ≡ kept i (names (configured c).made) (messages_of ls)
     → (panel_at i (life (configured c).made ks) ≡ panel_at i (life (configured c).made ls)) × (gots i (configured c).made ks ≡ gots i (configured c).made ls)
 lives_alone_configured c i ks ls h e = lives_alone (configured c).made i ks ls (rw (eight_places c) h) e
+
+-- ---- what the host is shown
+
+run_valid : (ms : List Message) (b : DisplayBox) → valid b ≡ true → valid (run b ms) ≡ true
+run_valid [] b v = v
+run_valid (m ∷ ms) b v = run_valid ms (step b m).box (valid_kept b m v)
+
+bad_run : (ms : List Message) (b : DisplayBox) → valid b ≡ false → run b ms ≡ b
+bad_run [] b v = refl
+bad_run (m ∷ ms) b v = ap (λ (c : DisplayBox). run c ms) (bad_kept b m v) ∙ bad_run ms b v
+
+valid_run : (ms : List Message) (b : DisplayBox) → valid (run b ms) ≡ valid b
+valid_run ms b = go (valid b) refl
+  where
+    go : (v : Bool) → valid b ≡ v → valid (run b ms) ≡ valid b
+    go true e = run_valid ms b e ∙ sym e
+    go false e = ap valid (bad_run ms b e)
+
+count_run : (ms : List Message) (b : DisplayBox) → (run b ms).count ≡ b.count
+count_run [] b = refl
+count_run (m ∷ ms) b = count_run ms (step b m).box ∙ by_door (λ (o : Outcome). o.box.count ≡ b.count) b m (λ e. refl) (λ e. refl)
+
+shows : (b c : DisplayBox) (i : ℕ) → valid b ≡ valid c → b.count ≡ c.count → panel_at i b ≡ panel_at i c → panel_behind b (suc i) ≡ panel_behind c (suc i)
+unfolding panel_behind
+shows b c i v n p =
+    let k : suc i - 1 ≡ i = omega arith in
+    ap (λ (j : ℕ). cond (valid b && leb 1 (suc i) && leb (suc i) b.count) (panel_at j b) zero_panel) k
+    ∙ ap (λ (x : Panel). cond (valid b && leb 1 (suc i) && leb (suc i) b.count) x zero_panel) p
+    ∙ ap (λ (t : Bool). cond (t && leb 1 (suc i) && leb (suc i) b.count) (panel_at i c) zero_panel) v
+    ∙ ap (λ (x : ℕ). cond (valid c && leb 1 (suc i) && leb (suc i) x) (panel_at i c) zero_panel) n
+    ∙ ap (λ (j : ℕ). cond (valid c && leb 1 (suc i) && leb (suc i) c.count) (panel_at j c) zero_panel) (sym k)
+
+-- and `box_panel_at` shows the same panel after both lives
+pub lives_shown : (b : DisplayBox) (i : ℕ) (ks ls : List Call) → i < length b.panels
+    → kept i (names b) (messages_of ks) ≡ kept i (names b) (messages_of ls)
+    → panel_behind (life b ks) (suc i) ≡ panel_behind (life b ls) (suc i)
+lives_shown b i ks ls h e =
+    let x = life_is_run b ks in
+    let y = life_is_run b ls in
+    shows (life b ks) (life b ls) i
+    (ap valid x ∙ valid_run (messages_of ks) b ∙ sym (ap valid y ∙ valid_run (messages_of ls) b))
+    (ap (λ (c : DisplayBox). c.count) x ∙ count_run (messages_of ks) b ∙ sym (ap (λ (c : DisplayBox). c.count) y ∙ count_run (messages_of ls) b))
+    (lives_alone b i ks ls h e).0
+
+-- the panel that is shown behind a link in use of a box that keeps the rules is the record at its place
+pub shown : (b : DisplayBox) (i : ℕ) → (valid b && leb 1 (suc i) && leb (suc i) b.count) ≡ true → panel_behind b (suc i) ≡ panel_at i b
+unfolding panel_behind
+shown b i v = let k : suc i - 1 ≡ i = omega arith in ap (λ (t : Bool). cond t (panel_at (suc i - 1) b) zero_panel) v ∙ ap (λ (j : ℕ). panel_at j b) k
