@@ -1,6 +1,6 @@
 -- No line writes more than there is room for. A piece: every packet has thirteen bytes at least, and its text fourteen at most for each of
 -- them; and no packet has a byte that was neither held nor in the piece.
-use Prim.Native.Nat.{ℕ, ◌+◌, ◌*◌, ◌≤◌}
+use Prim.Native.Nat.{ℕ, ◌*◌, ◌≤◌}
 use mathlib.Core.List.{List, [], ◌∷◌, ◌++◌}
 use native.Mathlib.Omega.{arith}
 use lib.Dec.{leb}
