@@ -94,6 +94,7 @@ fn refused() -> Configured
 }
 
 // A new box: three bytes a panel, its family (57h or 4Bh), its group and its unit.
+#[tactic(auto, using(crate::proofs::Long::long_refused))]
 pub fn configure(c: &[u8]) -> Configured
     ensures { result ≡ configured c.now }
 {

