@@ -1,6 +1,6 @@
 -- The promise allows one outcome: what is held is the line's, and its text is put in one way.
 use Prim.Native.Nat.{ℕ}
-use mathlib.Core.Path.{◌≡◌, sym, ◌∙◌}
+use mathlib.Core.Path.{◌≡◌, sym, ap, ◌∙◌}
 use mathlib.Core.List.{List}
 use Rattle.script_text.proofs.Puts.{puts_one}
 use Rattle.script.specs.Answers.{Leaves, answered}
@@ -19,3 +19,8 @@ answer_line_one s line area r r' x x' p q = record {
   length_same = (puts_one p.text_is q.text_is).1;
   area_same = (puts_one p.text_is q.text_is).0;
 }
+
+-- agreeing is being the same: the result, and the lent bytes
+
+pub agree_is : (r r' : Left) (x x' : List ℕ) → Agree r r' x x' → (r ≡ r') × (x ≡ x')
+agree_is r r' x x' a = (ap (λ (s : Held). record { after = s; len = r.len }) a.after_same ∙ ap (λ (n : ℕ). record { after = r'.after; len = n }) a.length_same, a.area_same)
