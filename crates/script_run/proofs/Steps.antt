@@ -22,7 +22,7 @@ use Rattle.script_room.specs.Room.{room}
 use Rattle.script_room.proofs.Pieces.{text_fits}
 use Rattle.script_run.specs.declared.Progress.{Progress}
 use Rattle.script_run.specs.Lines.{part_done, RunsLine}
-use Rattle.script_run.specs.Pieces.{SoFar, at_call, further, reach, Store, stored}
+use Rattle.script_run.specs.Pieces.{SoFar, further, reach, Store, stored}
 use Rattle.script_run.proofs.Kept.{kept_answered}
 use Rattle.script_run.proofs.Further.{Holds, holds_first, holds_further}
 use Rattle.script_run.proofs.Lines.{line_is, goes_on, line_further, line_stored, line_reach, ended, end_further, end_stored, end_reach}
