@@ -4,6 +4,7 @@ use mathlib.Core.Bool.{true, false}
 use mathlib.Core.List.{List, map}
 use borrow.Author.Tests.{lt-ltb, le-ltb, eq-eqb, ne_eqb}
 use borrow.Author.Rules.{rules}
+use native.Mathlib.Omega.{arith}
 use Prim.Native.Nat.{ℕ}
 use Rattle.box_rules.specs.declared.Ids.{Ids}
 use Rattle.steps.specs.Messages.{on_link}
@@ -43,4 +44,4 @@ unfolding opened
 returns c =
     let a = c.args in
     let s = same a.line a.ids a.link c.family_on.result c.family_by.result c.family_on.ensures c.family_by.ensures c.if-family_on-family_by.false in
-    (sym (rw (le-ltb _ _ c.if-room-lt512.false, s, ← c.target_by-number.ensures, ne_eqb _ _ c.if-number-eq0.false)), search rules)
+    (sym (rw (le-ltb _ _ c.if-room-lt512.false, s, ← c.target_by-number.ensures, ne_eqb c.target_by-number.result 0 (λ e. omega arith))), search rules)
