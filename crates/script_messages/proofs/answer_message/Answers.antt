@@ -29,5 +29,6 @@ returns c =
     let r = c.carry in
     let n = c.number_at-room in
     let h = room a.line.now n.ensures in
-    let e = carried_same a.b a.by c.number_at-link.ensures (front c.bytes_at-n.ensures) (throughout n.result 1024 165 h ∙ ap (λ (k : ℕ). replicate k 165) n.ensures) in
+    let lent = throughout n.result 1024 165 h ∙ ap (λ (k : ℕ). replicate k 165) n.ensures in
+    let e = carried_same a.b a.by c.number_at-link.ensures (front c.bytes_at-n.ensures) lent in
     subst (λ (o : Effect). Answers o r.result a.out.now r.new.out) e r.ensures.answers
