@@ -1,7 +1,7 @@
 // Reads a script from standard input and writes what its lines answer (docs/SCRIPTS.md): what that is stands in `script_run`.
 #![tactic(auto)]
 
-ghost use Rattle.std.specs.Prelude.{ℕ, ◌≤◌, List, ◌++◌, length, take, OnOk, OnErr};
+ghost use Rattle.std.specs.Prelude.{ℕ, ◌≤◌, List, ◌++◌, length, take, IfOk, OnErr};
 ghost use Rattle.script.specs.declared.Held.{Held};
 ghost use Rattle.script_run.specs.Calls.{Reached};
 
@@ -19,8 +19,10 @@ fn take_piece(
     area: &mut [u8],
 ) -> io::Result<Progress>
     requires { ((bytes : List ℕ) × Reached bytes p.held store.old p.kept) × (24576 ≤ length area.old) }
-    ensures ok { OnOk result (λ r. (bytes : List ℕ) → Reached bytes p.held store.old p.kept → Reached (bytes ++ piece.now) r.held store.new r.kept) }
-    ensures err { OnErr result ((bytes : List ℕ) → Reached bytes p.held store.old p.kept → (n : ℕ) × (held : Held) × (kept : ℕ) × Reached (bytes ++ take n piece.now) held store.new kept) }
+    ensures ok { IfOk result (λ r. (bytes : List ℕ) → Reached bytes p.held store.old p.kept
+        → Reached (bytes ++ piece.now) r.held store.new r.kept) }
+    ensures err { OnErr result ((bytes : List ℕ) → Reached bytes p.held store.old p.kept
+        → (n : ℕ) × (held : Held) × (kept : ℕ) × Reached (bytes ++ take n piece.now) held store.new kept) }
 {
     let mut q = p;
     let mut at = 0;
