@@ -36,3 +36,15 @@ run_piece_one b store kept piece area r r' x x' y y' p q =
       store_same = ap (λ (s : Store). s.bytes) k;
       area_same = p.text_is.area_is ∙ ap (λ (s : SoFar). sent s.text area) so ∙ sym q.text_is.area_is;
     }
+
+-- agreeing is being the same: the result, and the lent bytes of store and area
+
+pub agree_is : (r r' : Progress) (x x' y y' : List ℕ) → Agree r r' x x' y y' → (r ≡ r') × (x ≡ x') × (y ≡ y')
+agree_is r r' x x' y y' a = (
+  ap (λ (s : Held). record { held = s; kept = r.kept; next = r.next; len = r.len }) a.held_same
+      ∙ ap (λ (n : ℕ). record { held = r'.held; kept = n; next = r.next; len = r.len }) a.kept_same
+      ∙ ap (λ (n : ℕ). record { held = r'.held; kept = r'.kept; next = n; len = r.len }) a.next_same
+      ∙ ap (λ (n : ℕ). record { held = r'.held; kept = r'.kept; next = r'.next; len = n }) a.length_same,
+  a.store_same,
+  a.area_same,
+)
