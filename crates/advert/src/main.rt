@@ -1,7 +1,7 @@
 // Reads all of standard input and prints the advert's product, serial, group and unit, or the one line `refused N`.
 #![tactic(auto)]
 
-ghost use Rattle.std.specs.Prelude.{◌≤◌, IfOk};
+ghost use Rattle.std.specs.Prelude.{◌≤◌, length};
 
 use sdap::{Advert, text_length};
 use sdap_read::read_advert;
@@ -9,35 +9,44 @@ use std::io;
 use std::io::{Read, Write};
 use terms::answer_number;
 
+// Reads once, and answers how many bytes came: none where the input has ended, or cannot be read.
+fn read_some(input: &mut impl Read, area: &mut [u8]) -> usize
+    ensures { result ≤ length area.old }
+{
+    match input.read(area) {
+        Ok(n) => n,
+        Err(_) => 0,
+    }
+}
+
 // As much of an advert as the input begins with: an advert has 122 bytes, so the 123rd is all that need be known of a longer input.
-fn read_front(input: &mut impl Read, front: &mut [u8; 123]) -> io::Result<usize>
-    ensures { IfOk result (λ n. n ≤ 123) }
+fn read_front(input: &mut impl Read, front: &mut [u8; 123]) -> usize
+    ensures { result ≤ 123 }
 {
     let mut n = 0;
     for _ in 0..123 {
-        let came = input.read(&mut front[n..])?;
+        let came = read_some(input, &mut front[n..]);
         if came == 0 {
             break;
         }
         n += came;
     }
-    Ok(n)
+    n
 }
 
 // Reads once, drops what came, and answers whether there may be more.
-fn drop_some(input: &mut impl Read) -> io::Result<bool> {
+fn drop_some(input: &mut impl Read) -> bool {
     let mut rest = [0u8; 4096];
-    Ok(input.read(&mut rest)? > 0)
+    read_some(input, &mut rest) > 0
 }
 
 // Drops what is left of the input. A proved loop has to end, and nothing says that the input does: so the turns are
 // counted down from a number that no run uses up.
-fn drop_all(input: &mut impl Read) -> io::Result<()> {
+fn drop_all(input: &mut impl Read) {
     let mut turns = u64::MAX;
-    while turns > 0 && drop_some(input)? {
+    while turns > 0 && drop_some(input) {
         turns -= 1;
     }
-    Ok(())
 }
 
 fn print_line(out: &mut impl Write, word: &[u8], n: u64) -> io::Result<()> {
@@ -63,8 +72,8 @@ fn main(rt: HostRuntime) -> io::Result<()> {
     let mut input = rt.stdin();
     let mut out = rt.stdout();
     let mut front = [0u8; 123];
-    let n = read_front(&mut input, &mut front)?;
-    drop_all(&mut input)?;
+    let n = read_front(&mut input, &mut front);
+    drop_all(&mut input);
     let read = read_advert(&front[..n]);
     let number = answer_number(read.answer);
     if number != 0 {

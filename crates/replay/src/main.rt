@@ -36,6 +36,16 @@ fn take_piece(
     Ok(q)
 }
 
+// Reads once, and answers how many bytes came: none where the input has ended, or cannot be read.
+fn read_some(input: &mut impl Read, area: &mut [u8]) -> usize
+    ensures { result ≤ length area.old }
+{
+    match input.read(area) {
+        Ok(n) => n,
+        Err(_) => 0,
+    }
+}
+
 // A proved loop has to end, and nothing says that the input does: so the turns are counted down from a number that no run
 // uses up. What a piece writes is out before the next one is read, so that a person at a terminal sees it. "The last may lack
 // it": 0Ah behind the input ends the last line, and behind a line that has ended it is an empty line.
@@ -53,7 +63,7 @@ fn main(rt: HostRuntime) -> io::Result<()> {
     };
     let mut turns = u64::MAX;
     while turns > 0 {
-        let n = input.read(&mut piece)?;
+        let n = read_some(&mut input, &mut piece);
         if n == 0 {
             break;
         }
