@@ -60,7 +60,6 @@ static void enter(void)
 static void measure(uint8_t paint)
 {
     static ucontext_t here, there;
-    size_t kept = 0;
     memset(stack, paint, sizeof stack);
     if (getcontext(&there) != 0)
         exit(2);
@@ -70,6 +69,7 @@ static void measure(uint8_t paint)
     makecontext(&there, enter, 0);
     if (swapcontext(&here, &there) != 0)
         exit(2);
+    size_t kept = 0;
     while (kept < sizeof stack && stack[kept] == paint)
         kept++;
     size_t depth = (size_t)(from - stack) - kept, most = called == list ? BOX_PLAIN_STACK_LENGTH : BOX_STACK_LENGTH;
