@@ -1,7 +1,7 @@
 #!/usr/bin/env python3
 """Spells this repository's own names as today's Rattle does: definitions, lemmas and labels in snake case.
 
-usage: tools/respell.py    at the top of the repository, once, after /opt/rattle/port/port.py
+usage: tools/respell.py    at the top of the repository, once, after the port.py of the kit
 
 It reads which names specs/ and the lemma files of proofs/ declare. A name in camel case or with dashes becomes its words with
 underscores: `everyBelow` is `every_below`, `sent-one` is `sent_one`. Types, modules, functions of src/, exported names, texts
