@@ -15,8 +15,7 @@ use Rattle.laws.proofs.Conditions.{and_first, and_second}
 use Rattle.laws.proofs.Numbers.{positive, above, first_under}
 use Rattle.laws.proofs.Lists.{from, behind, every_from}
 use Rattle.decimals.specs.Decimals.{is_digit, decimal, in_digits, read_digits}
-use Rattle.decimals.specs.declared.Number.{Number}
-use Rattle.decimals.specs.declared.Number.TheVariants.{Is, Not}
+use Rattle.std.specs.Prelude.{Option, Some, None}
 
 -- a digit is `0` to `9`
 pub digit_low : (b : ℕ) → is_digit b ≡ true → 0x30 ≤ b
@@ -122,23 +121,23 @@ reading_small l i v r h =
     omega arith
 
 -- of one to sixteen bytes the digits decide
-pub number_digits : (p : List ℕ) → 1 ≤ length p → length p ≤ 16 → read_digits p ≡ cond (every is_digit p) (Is (decimal p)) Not
+pub number_digits : (p : List ℕ) → 1 ≤ length p → length p ≤ 16 → read_digits p ≡ cond (every is_digit p) (Some (decimal p)) None
 unfolding read_digits
 number_digits p low high = rw (le-leb 1 (length p) low, le-leb (length p) 16 high)
 
 -- a number that was read is what the digits write, and there is none where a byte is no digit
-pub number_is : (p : List ℕ) (r : Number) (v : ℕ) → r ≡ read_digits p → r ≡ Is v → (every is_digit p ≡ true) × (v ≡ decimal p)
+pub number_is : (p : List ℕ) (r : Option ℕ) (v : ℕ) → r ≡ read_digits p → r ≡ Some v → (every is_digit p ≡ true) × (v ≡ decimal p)
 unfolding read_digits
 number_is p r v e f = go (leb 1 (length p) && leb (length p) 16) (every is_digit p) refl (sym e ∙ f)
   where
-    go : (a b : Bool) → every is_digit p ≡ b → cond (a && b) (Is (decimal p)) Not ≡ Is v → (every is_digit p ≡ true) × (v ≡ decimal p)
+    go : (a b : Bool) → every is_digit p ≡ b → cond (a && b) (Some (decimal p)) None ≡ Some v → (every is_digit p ≡ true) × (v ≡ decimal p)
     go true true t q = (t, cc)
     go true false t q = let z : ◌≡◌ {A = ℕ} 0 1 = cc in absurd (omega arith)
     go false b t q = let z : ◌≡◌ {A = ℕ} 0 1 = cc in absurd (omega arith)
 
-pub number_not : (p : List ℕ) (r : Number) → 1 ≤ length p → length p ≤ 16 → r ≡ read_digits p → r ≡ Not → every is_digit p ≡ false
+pub number_not : (p : List ℕ) (r : Option ℕ) → 1 ≤ length p → length p ≤ 16 → r ≡ read_digits p → r ≡ None → every is_digit p ≡ false
 number_not p r low high e f = go (every is_digit p) (sym (number_digits p low high) ∙ sym e ∙ f)
   where
-    go : (b : Bool) → cond b (Is (decimal p)) Not ≡ Not → b ≡ false
+    go : (b : Bool) → cond b (Some (decimal p)) None ≡ None → b ≡ false
     go true q = let z : ◌≡◌ {A = ℕ} 0 1 = cc in absurd (omega arith)
     go false q = refl

@@ -4,13 +4,13 @@ use mathlib.Core.List.{List}
 use Prim.Native.Nat.{ℕ, ◌+◌, ◌/◌, ◌%◌, ◌^◌}
 use Rattle.decimals.specs.Decimals.{in_digits, read_digits, up_to, spelled}
 use Rattle.decimals.specs.Plain.{width}
-use Rattle.decimals.specs.declared.Number.{Number}
+use Rattle.std.specs.Prelude.{Option}
 use Rattle.decimals.specs.declared.Numeral.{Numeral}
 
-pub read_digits_one : (p : List ℕ) (r r' : Number) → r ≡ read_digits p → r' ≡ read_digits p → r ≡ r'
+pub read_digits_one : (p : List ℕ) (r r' : Option ℕ) → r ≡ read_digits p → r' ≡ read_digits p → r ≡ r'
 read_digits_one p r r' e f = e ∙ sym f
 
-pub plain_number_one : (s : List ℕ) (most : ℕ) (r r' : Number) → r ≡ up_to most s → r' ≡ up_to most s → r ≡ r'
+pub plain_number_one : (s : List ℕ) (most : ℕ) (r r' : Option ℕ) → r ≡ up_to most s → r' ≡ up_to most s → r ≡ r'
 plain_number_one s most r r' e f = e ∙ sym f
 
 pub digits4_one : (v : ℕ) (r r' : List ℕ) → r ≡ in_digits 4 v → r' ≡ in_digits 4 v → r ≡ r'

@@ -11,20 +11,19 @@ use borrow.Author.Tests.{le-leb, lt-leb, leb-true, leb-false, ne_eqb, eqb-false}
 use Rattle.laws.specs.Lists.{every}
 use Rattle.laws.proofs.Conditions.{and_first, and_second, false_true}
 use Rattle.decimals.specs.Decimals.{is_digit, decimal, read_digits, leads_zero, is_numeral, up_to}
-use Rattle.decimals.specs.declared.Number.{Number}
-use Rattle.decimals.specs.declared.Number.TheVariants.{Is, Not}
+use Rattle.std.specs.Prelude.{Option, Some, None}
 use Rattle.decimals.proofs.Decimals.{digit_low}
 
 -- a number that was read is at most m
-abbrev pub Most : ℕ → Number → Type 0
-Most m (Is v) = v ≤ m
-Most m Not = Unit {0}
+abbrev pub Most : ℕ → Option ℕ → Type 0
+Most m (Some v) = v ≤ m
+Most m None = Unit {0}
 
 pub up_to_most : (most : ℕ) (s : List ℕ) → Most most (up_to most s)
 unfolding up_to
 up_to_most most s = go (is_numeral s && leb (decimal s) most) refl
   where
-    go : (b : Bool) → (is_numeral s && leb (decimal s) most) ≡ b → Most most (cond b (Is (decimal s)) Not)
+    go : (b : Bool) → (is_numeral s && leb (decimal s) most) ≡ b → Most most (cond b (Some (decimal s)) None)
     go true e = leb-true (decimal s) most (and_second (is_numeral s) (leb (decimal s) most) e)
     go false e = tt
 
@@ -33,11 +32,11 @@ never true = refl
 never false = refl
 
 -- no such number: no numeral, or a number over the most
-no_numeral : (most : ℕ) (s : List ℕ) → is_numeral s ≡ false → up_to most s ≡ Not
+no_numeral : (most : ℕ) (s : List ℕ) → is_numeral s ≡ false → up_to most s ≡ None
 unfolding up_to
 no_numeral most s e = rw e
 
-over : (most : ℕ) (s : List ℕ) → most < decimal s → up_to most s ≡ Not
+over : (most : ℕ) (s : List ℕ) → most < decimal s → up_to most s ≡ None
 unfolding up_to
 over most s h = rw (lt-leb (decimal s) most h, never (is_numeral s))
 
@@ -52,7 +51,7 @@ pub long_lead : (s : List ℕ) → 2 ≤ length s → leads_zero s ≡ eqb (get_
 unfolding leads_zero
 long_lead s h = rw (ne_eqb (length s) 1 (λ e. omega arith))
 
-pub zero_no_number : (most : ℕ) (s : List ℕ) → leads_zero s ≡ true → up_to most s ≡ Not
+pub zero_no_number : (most : ℕ) (s : List ℕ) → leads_zero s ≡ true → up_to most s ≡ None
 unfolding is_numeral
 zero_no_number most s e = no_numeral most s (rw e (never (leb 1 (length s) && every is_digit s)))
 
@@ -93,30 +92,30 @@ long_over most b l m e h =
     let k = numeral_long b l e (omega arith) in
     omega (arith, p, k)
 
-long_no_number : (most : ℕ) (s : List ℕ) → most < 4294967296 → 16 < length s → up_to most s ≡ Not
+long_no_number : (most : ℕ) (s : List ℕ) → most < 4294967296 → 16 < length s → up_to most s ≡ None
 long_no_number most [] m h = absurd (omega arith)
 long_no_number most (b ∷ l) m h = go (is_numeral (b ∷ l)) refl
   where
-    go : (x : Bool) → is_numeral (b ∷ l) ≡ x → up_to most (b ∷ l) ≡ Not
+    go : (x : Bool) → is_numeral (b ∷ l) ≡ x → up_to most (b ∷ l) ≡ None
     go false e = no_numeral most (b ∷ l) e
     go true e = over most (b ∷ l) (long_over most b l m e (omega arith))
 
 -- what the number reader read, up to a most
-abbrev pub capped : ℕ → Number → Number
-capped most (Is v) = cond (leb v most) (Is v) Not
-capped most Not = Not
+abbrev pub capped : ℕ → Option ℕ → Option ℕ
+capped most (Some v) = cond (leb v most) (Some v) None
+capped most None = None
 
 short_number : (most : ℕ) (s : List ℕ) → length s ≤ 16 → leads_zero s ≡ false → up_to most s ≡ capped most (read_digits s)
 unfolding up_to is_numeral read_digits
 short_number most s h z = rw (z, le-leb (length s) 16 h) (go (leb 1 (length s)) (every is_digit s))
   where
-    go : (a b : Bool) → cond (a && b && true && leb (decimal s) most) (Is (decimal s)) Not ≡ capped most (cond (a && true && b) (Is (decimal s)) Not)
+    go : (a b : Bool) → cond (a && b && true && leb (decimal s) most) (Some (decimal s)) None ≡ capped most (cond (a && true && b) (Some (decimal s)) None)
     go true true = refl
     go true false = refl
     go false true = refl
     go false false = refl
 
-long_not : (s : List ℕ) → 16 < length s → read_digits s ≡ Not
+long_not : (s : List ℕ) → 16 < length s → read_digits s ≡ None
 unfolding read_digits
 long_not s h = rw (lt-leb (length s) 16 h, never (leb 1 (length s)))
 

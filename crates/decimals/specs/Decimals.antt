@@ -1,8 +1,6 @@
 -- Decimal digits, the highest first.
-use Rattle.std.specs.Prelude.{ℕ, zero, suc, ◌+◌, ◌-◌, ◌*◌, ◌/◌, ◌%◌, ◌^◌, Bool, not, cond, ◌&&◌, List, [], ◌∷◌, ◌++◌, length, get_or, replicate, eqb, leb, ltb}
+use Rattle.std.specs.Prelude.{ℕ, zero, suc, ◌+◌, ◌-◌, ◌*◌, ◌/◌, ◌%◌, ◌^◌, Bool, not, cond, ◌&&◌, List, [], ◌∷◌, ◌++◌, length, get_or, replicate, eqb, leb, ltb, Option, Some, None}
 use Rattle.laws.specs.Lists.{every}
-use Rattle.decimals.specs.declared.Number.{Number}
-use Rattle.decimals.specs.declared.Number.TheVariants.{Is, Not}
 use Rattle.decimals.specs.declared.Numeral.{Numeral}
 
 -- a byte `0` to `9`
@@ -20,10 +18,10 @@ in_digits zero v = []
 in_digits (suc n) v = (0x30 + v / 10 ^ n % 10) ∷ in_digits n v
 
 -- the number that one to sixteen decimal digits write, and nothing else
-unfoldable pub read_digits : List ℕ → Number
-read_digits p = cond (leb 1 (length p) && leb (length p) 16 && every is_digit p) (Is (decimal p)) Not
+unfoldable pub read_digits : List ℕ → Option ℕ
+read_digits p = cond (leb 1 (length p) && leb (length p) 16 && every is_digit p) (Some (decimal p)) None
 
--- a leading zero: `0` alone has none
+-- a leading zero: `0` alone has None
 unfoldable pub leads_zero : List ℕ → Bool
 leads_zero s = not (eqb (length s) 1) && eqb (get_or s 0 0) 0x30
 
@@ -32,8 +30,8 @@ unfoldable pub is_numeral : List ℕ → Bool
 is_numeral s = leb 1 (length s) && every is_digit s && not (leads_zero s)
 
 -- such a number up to a most, or none
-unfoldable pub up_to : ℕ → List ℕ → Number
-up_to most s = cond (is_numeral s && leb (decimal s) most) (Is (decimal s)) Not
+unfoldable pub up_to : ℕ → List ℕ → Option ℕ
+up_to most s = cond (is_numeral s && leb (decimal s) most) (Some (decimal s)) None
 
 -- a number below 1000 in decimal, without leading zeros
 unfoldable pub numeral : ℕ → List ℕ

@@ -6,13 +6,6 @@ ghost use Rattle.laws.specs.Lists.{every};
 ghost use Rattle.decimals.specs.Decimals.{is_digit, decimal, in_digits, read_digits, leads_zero, up_to, spelled};
 ghost use Rattle.decimals.specs.Plain.{width};
 
-// The number that a text writes, if it writes one.
-#[derive(Clone, Copy)]
-pub enum Number {
-    Is(u64),
-    Not,
-}
-
 // A number without leading zeros: so many bytes, then zeros.
 #[derive(Clone, Copy)]
 pub struct Numeral {
@@ -61,19 +54,19 @@ fn number_in(p: &[u8]) -> u64
 
 // The number that one to sixteen digits write; sixteen always fit the word.
 #[tactic(auto, unfolding(crate::specs::Decimals::read_digits))]
-pub fn read_digits(p: &[u8]) -> Number
+pub fn read_digits(p: &[u8]) -> Option<u64>
     ensures { result ≡ read_digits p.now }
 {
     if p.len() < 1 {
-        return Number::Not;
+        return None;
     }
     if 16 < p.len() {
-        return Number::Not;
+        return None;
     }
     if !are_digits(p) {
-        return Number::Not;
+        return None;
     }
-    Number::Is(number_in(p))
+    Some(number_in(p))
 }
 
 // A leading zero: `0` alone has none.
@@ -87,19 +80,19 @@ fn leads_zero(s: &[u8]) -> bool
 }
 
 // A number without sign or leading zero, up to a most. One of more than sixteen digits is over any most.
-pub fn plain_number(s: &[u8], most: u32) -> Number
+pub fn plain_number(s: &[u8], most: u32) -> Option<u64>
     ensures { result ≡ up_to most s.now }
 {
     if leads_zero(s) {
-        return Number::Not;
+        return None;
     }
-    let Number::Is(v) = read_digits(s) else {
-        return Number::Not;
+    let Some(v) = read_digits(s) else {
+        return None;
     };
     if (most as u64) < v {
-        return Number::Not;
+        return None;
     }
-    Number::Is(v)
+    Some(v)
 }
 
 // The powers of ten that a word holds, in the order of its ten digits: the highest first.

@@ -11,13 +11,6 @@ use octets::byte_at;
 use setting_texts::{first_word, row_text, text_length, word_count};
 use settings::NAME_COUNT;
 
-// A place in a table, or none.
-#[derive(Clone, Copy)]
-pub enum Found {
-    At(usize),
-    Nothing,
-}
-
 // Each text's first byte: most rows are told apart by it.
 const INITIALS: [u8; 32] = *b"PCVMNRRPKTTHBMCLSSFFFSSOOFL07012";
 
@@ -109,7 +102,7 @@ fn row_meets(s: &[u8], front: u8, firsts: &[u8; 32], row: usize, bare: bool) -> 
 }
 
 // The first of n rows that s meets, counted from the first of them.
-fn find(s: &[u8], first: usize, n: usize, bare: bool) -> Found
+fn find(s: &[u8], first: usize, n: usize, bare: bool) -> Option<usize>
     requires { first + n ≤ 32 }
     ensures { result ≡ first_of n 0 (λ (i : ℕ). meets bare (first + i) s.now) }
 {
@@ -118,33 +111,33 @@ fn find(s: &[u8], first: usize, n: usize, bare: bool) -> Found
     let mut i = 0;
     while i < n {
         if row_meets(s, front, &firsts, first + i, bare) {
-            return Found::At(i);
+            return Some(i);
         }
         i += 1;
     }
-    Found::Nothing
+    None
 }
 
 // Whose name is s.
-pub fn named(s: &[u8]) -> Found
+pub fn named(s: &[u8]) -> Option<usize>
     ensures { result ≡ named_by s.now }
 {
     find(s, 0, NAME_COUNT, true)
 }
 
 // Whose name, with what parts it from its value, begins s.
-pub fn led(s: &[u8]) -> Found
+pub fn led(s: &[u8]) -> Option<usize>
     ensures { result ≡ led_by s.now }
 {
     find(s, 0, NAME_COUNT, false)
 }
 
 // Which of setting k's values has the word s.
-pub fn chosen(k: usize, s: &[u8]) -> Found
+pub fn chosen(k: usize, s: &[u8]) -> Option<usize>
     ensures { result ≡ chosen_by k s.now }
 {
     if NAME_COUNT <= k {
-        return Found::Nothing;
+        return None;
     }
     find(s, first_word(k), word_count(k), true)
 }

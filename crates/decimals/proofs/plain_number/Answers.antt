@@ -18,10 +18,10 @@ pub returns-then-most-v : goal.returns-then-most-v
 returns-then-most-v c =
     let n = c in
     let a = n.args in
-    sym (plain_number a.most a.s.now (omega arith) (sym n.leads_zero.ensures ∙ n.if-leads_zero.false) ∙ ap (capped a.most) (sym n.read_digits.ensures ∙ c.in-Is.is) ∙ rw (lt-leb _ _ c.if-most-v.true))
+    sym (plain_number a.most a.s.now (omega arith) (sym n.leads_zero.ensures ∙ n.if-leads_zero.false) ∙ ap (capped a.most) (sym n.read_digits.ensures ∙ c.in-Some.is) ∙ rw (lt-leb _ _ c.if-most-v.true))
 
 pub returns : goal.returns
 returns c =
     let n = c in
     let a = n.args in
-    sym (plain_number a.most a.s.now (omega arith) (sym n.leads_zero.ensures ∙ n.if-leads_zero.false) ∙ ap (capped a.most) (sym n.read_digits.ensures ∙ c.in-Is.is) ∙ rw (le-leb _ _ c.if-most-v.false))
+    sym (plain_number a.most a.s.now (omega arith) (sym n.leads_zero.ensures ∙ n.if-leads_zero.false) ∙ ap (capped a.most) (sym n.read_digits.ensures ∙ c.in-Some.is) ∙ rw (le-leb _ _ c.if-most-v.false))
