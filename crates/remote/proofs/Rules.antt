@@ -2,23 +2,21 @@
 use Prim.Native.Nat.{ℕ, ◌<◌, ◌≤◌}
 use mathlib.Core.Path.{◌≡◌, refl, sym, ap, ◌∙◌}
 use mathlib.Core.Bool.{Bool, true, false, cond, ◌||◌}
-use mathlib.Core.List.{List, [], ◌∷◌, ◌++◌, map, Memᴰ}
+use mathlib.Core.List.{List, [], ◌∷◌, map, Memᴰ}
 use native.Mathlib.Omega.{arith}
 use lib.Dec.{eqb, leb}
-use lib.ListN.{get_or, replicate, get_or-map}
 use borrow.Author.Tests.{leb-true}
-use Rattle.laws.specs.Lists.{every, listed, places}
+use Rattle.std.specs.Prelude.{Option, Some, None}
+use Rattle.laws.specs.Lists.{every, listed}
 use Rattle.laws.proofs.Conditions.{and_first, and_second, choose, false_true}
-use Rattle.laws.proofs.Lists.{listed_every, places_at}
+use Rattle.laws.proofs.Lists.{listed_every}
 use Rattle.remote.specs.Codes.{Code, codes, asked_in, button_of}
-use Rattle.remote.specs.Buttons.{button_numbered}
 use Rattle.remote.specs.declared.Button.{Button}
-use Rattle.remote.specs.declared.Button.TheVariants.{Unlisted, Idle, Louder, Softer, Mute, Picture, Power, Hdmi}
 
 -- ---- every row asks what it says
 
 -- no row stands in the shadow of another with the same code
-rows_ask : map (λ (c : Code). button_of c.code) codes ≡ map (λ (c : Code). c.asks) codes
+rows_ask : map (λ (c : Code). button_of c.code) codes ≡ map (λ (c : Code). Some c.asks) codes
 unfolding button_of asked_in
 rows_ask = refl
 
@@ -28,22 +26,17 @@ of_each {A = A} {B = B} f g [] x e x4 = elim x4 [ ]
 of_each f g (y ∷ l) x e (Memᴰ.head p) = let q : f y ≡ g y = cc in ap f p ∙ q ∙ ap g (sym p)
 of_each f g (y ∷ l) x e (Memᴰ.tail m) = let q : map f l ≡ map g l = cc in of_each f g l x q m
 
-pub listed_asks : (c : Code) → Memᴰ c codes → button_of c.code ≡ c.asks
-listed_asks c = of_each (λ (r : Code). button_of r.code) (λ (r : Code). r.asks) codes c rows_ask
+pub listed_asks : (c : Code) → Memᴰ c codes → button_of c.code ≡ Some c.asks
+listed_asks c = of_each (λ (r : Code). button_of r.code) (λ (r : Code). Some r.asks) codes c rows_ask
 
 -- and none of them says that it is no code
-abbrev is_button : Button → Bool
-is_button Unlisted = false
-is_button Idle = true
-is_button Louder = true
-is_button Softer = true
-is_button Mute = true
-is_button Picture = true
-is_button Power = true
-is_button (Hdmi port) = true
+pub asks_one : (c : Code) → Memᴰ c codes → button_of c.code ≡ None → ⊥
+asks_one c m e = let a = listed_asks c m in cc
 
-pub asks_one : (c : Code) → Memᴰ c codes → c.asks ≡ Unlisted → ⊥
-asks_one c m e = false_true (ap is_button (sym e) ∙ of_each (λ (r : Code). is_button r.asks) (λ (r : Code). true) codes c refl m)
+-- a button is one
+abbrev is_button : Option Button → Bool
+is_button None = false
+is_button (Some b) = true
 
 -- ---- every other number is none
 
@@ -52,60 +45,40 @@ abbrev pub numbers : List ℕ
 numbers = map (λ (c : Code). c.code) codes
 
 -- each of them is a button's: `unlisted` leaves out no more
-pub listed_button : (n : ℕ) → listed numbers n ≡ true → button_of n ≡ Unlisted → ⊥
+pub listed_button : (n : ℕ) → listed numbers n ≡ true → button_of n ≡ None → ⊥
 unfolding button_of asked_in
 listed_button n e u = false_true (ap is_button (sym u) ∙ listed_every (λ (x : ℕ). is_button (button_of x)) numbers n refl e)
 
-unlisted_in : (cs : List Code) (n : ℕ) → listed (map (λ (c : Code). c.code) cs) n ≡ false → asked_in cs n ≡ Unlisted
+unlisted_in : (cs : List Code) (n : ℕ) → listed (map (λ (c : Code). c.code) cs) n ≡ false → asked_in cs n ≡ None
 unfolding asked_in
 unlisted_in [] n e = refl
 unlisted_in (c ∷ cs) n e = go (eqb n c.code) e (unlisted_in cs n)
   where
     go : (b : Bool) → (b || listed (map (λ (r : Code). r.code) cs) n) ≡ false
-        → (listed (map (λ (r : Code). r.code) cs) n ≡ false → asked_in cs n ≡ Unlisted) → cond b c.asks (asked_in cs n) ≡ Unlisted
+        → (listed (map (λ (r : Code). r.code) cs) n ≡ false → asked_in cs n ≡ None) → cond b (Some c.asks) (asked_in cs n) ≡ None
     go true e r = absurd (false_true (sym e))
     go false e r = r e
 
-pub unlisted : (n : ℕ) → listed numbers n ≡ false → button_of n ≡ Unlisted
+pub unlisted : (n : ℕ) → listed numbers n ≡ false → button_of n ≡ None
 unfolding button_of
 unlisted n = unlisted_in codes n
 
 -- what holds of a number that is none, and of what each row asks, holds of what any number asks
-pub each_asks : (f : Button → Bool) → f Unlisted ≡ true → every (λ (c : Code). f c.asks) codes ≡ true → (n : ℕ) → f (button_of n) ≡ true
+pub each_asks : (f : Option Button → Bool) → f None ≡ true → every (λ (c : Code). f (Some c.asks)) codes ≡ true → (n : ℕ) → f (button_of n) ≡ true
 unfolding button_of asked_in
 each_asks f u e n = each_in codes e
   where
-    each_in : (cs : List Code) → every (λ (c : Code). f c.asks) cs ≡ true → f (asked_in cs n) ≡ true
+    each_in : (cs : List Code) → every (λ (c : Code). f (Some c.asks)) cs ≡ true → f (asked_in cs n) ≡ true
     each_in [] e = u
     each_in (c ∷ cs) e =
-        choose (λ (b : Button). f b ≡ true) (eqb n c.code) c.asks (asked_in cs n)
-        (λ _. and_first (f c.asks) (every (λ (r : Code). f r.asks) cs) e)
-        (λ _. each_in cs (and_second (f c.asks) (every (λ (r : Code). f r.asks) cs) e))
+        choose (λ (b : Option Button). f b ≡ true) (eqb n c.code) (Some c.asks) (asked_in cs n)
+        (λ _. and_first (f (Some c.asks)) (every (λ (r : Code). f (Some r.asks)) cs) e)
+        (λ _. each_in cs (and_second (f (Some c.asks)) (every (λ (r : Code). f (Some r.asks)) cs) e))
 
 -- no code is beyond the code's table
-pub beyond : (n : ℕ) → 130 < n → button_of n ≡ Unlisted
+pub beyond : (n : ℕ) → 130 < n → button_of n ≡ None
 beyond n h = unlisted n (go (listed numbers n) refl)
   where
     go : (b : Bool) → listed numbers n ≡ b → b ≡ false
     go false e = refl
     go true e = let k : n ≤ 130 = leb-true n 130 (listed_every (λ (x : ℕ). leb x 130) numbers n refl e) in absurd (omega arith)
-
--- ---- the code's bytes are the table's
-
--- the code's table
-abbrev pub acts : List ℕ
-acts =
-    replicate 5 0 ++ replicate 23 1 ++ replicate 2 0 ++ (2 ∷ 3 ∷ 4 ∷ 1 ∷ 1 ∷ 1 ∷ 0 ∷ 0 ∷ 1 ∷ []) ++ replicate 11 0 ++ (5 ∷ []) ++ replicate 10 0
-    ++ (1 ∷ 1 ∷ []) ++ replicate 13 0 ++ replicate 7 1 ++ (0 ∷ 1 ∷ 0 ∷ 1 ∷ 1 ∷ []) ++ replicate 10 0 ++ (6 ∷ 1 ∷ 0 ∷ 1 ∷ 0 ∷ 0 ∷ 1 ∷ 1 ∷ 0 ∷ 0 ∷ 1 ∷ 0 ∷ 1 ∷ [])
-    ++ replicate 10 0 ++ (1 ∷ 0 ∷ 0 ∷ 7 ∷ 8 ∷ 9 ∷ 10 ∷ 0 ∷ 1 ∷ 1 ∷ [])
-
-acts_are : map button_numbered acts ≡ places 131 0 button_of
-unfolding button_of asked_in
-acts_are = refl
-
-pub act_is : (n : ℕ) → n < 131 → button_numbered (get_or acts n 0) ≡ button_of n
-act_is n h =
-    sym (get_or-map button_numbered acts n 0)
-    ∙ ap (λ (l : List Button). get_or l n Unlisted) acts_are
-    ∙ places_at 131 0 n button_of Unlisted h
-    ∙ ap button_of (omega arith)

@@ -1,9 +1,9 @@
 -- Document 003's table of the remote control's codes, and what document 02, §6, says of each.
-use Rattle.std.specs.Prelude.{ℕ, cond, List, [], ◌∷◌, eqb}
+use Rattle.std.specs.Prelude.{ℕ, cond, List, [], ◌∷◌, eqb, Option, Some, None}
 use Prim.Native.String.{String}
 use Rattle.laws.specs.Bytes.{ascii}
 use Rattle.remote.specs.declared.Button.{Button}
-use Rattle.remote.specs.declared.Button.TheVariants.{Unlisted, Idle, Louder, Softer, Mute, Picture, Power, Hdmi}
+use Rattle.remote.specs.declared.Button.TheVariants.{Idle, Louder, Softer, Mute, Picture, Power, Hdmi}
 
 -- a row of the table: the button's name, its code, and what it asks
 pub record Code : Type 0 where
@@ -78,9 +78,9 @@ codes =
     []
 
 -- what a number asks: what its row says; "an unlisted code" has none
-unfoldable pub asked_in : List Code → ℕ → Button
-asked_in [] n = Unlisted
-asked_in (c ∷ cs) n = cond (eqb n c.code) c.asks (asked_in cs n)
+unfoldable pub asked_in : List Code → ℕ → Option Button
+asked_in [] n = None
+asked_in (c ∷ cs) n = cond (eqb n c.code) (Some c.asks) (asked_in cs n)
 
-unfoldable pub button_of : ℕ → Button
+unfoldable pub button_of : ℕ → Option Button
 button_of n = asked_in codes n
