@@ -1,2 +1,3 @@
 pub mod Determined
 mod Examples
+pub mod Folds
