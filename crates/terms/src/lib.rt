@@ -1,11 +1,11 @@
 // The terms that every part of the box shares: its answers with their numbers, and the two kinds of ID.
 #![tactic(auto)]
 
-ghost use Rattle.std.specs.Prelude.{◌≡◌, eqb};
+ghost use Rattle.std.specs.Prelude.{◌≡◌};
 ghost use Rattle.terms.specs.Answers.{part_number, part_place, number_of, answer_place};
 
 // The part of a message's envelope that is wrong (document 02, §8).
-#[derive(Clone, Copy)]
+#[derive(Clone, Copy, PartialEq, Eq)]
 pub enum Part {
     // 9 request byte
     Request,
@@ -21,15 +21,8 @@ pub enum Part {
     Checksum(u16),
 }
 
-// What a message's envelope is found to be: good, or the first part of it that is wrong.
-#[derive(Clone, Copy)]
-pub enum Envelope {
-    Good,
-    Wrong(Part),
-}
-
 // What the box answers to a message, a configuration or an advert (document 01, "Answer numbers").
-#[derive(Clone, Copy)]
+#[derive(Clone, Copy, PartialEq, Eq)]
 pub enum Answer {
     // 0 carried out
     Done,
@@ -53,88 +46,95 @@ pub enum Answer {
     PartWrong(Part),
 }
 
-// The number of a part that is wrong.
-fn part_number(p: Part) -> u8
-    ensures { result ≡ part_number p }
-{
-    match p {
-        Part::Request => 9,
-        Part::Item => 10,
-        Part::TooLong => 11,
-        Part::NotMatching => 12,
-        Part::Count => 13,
-        Part::Checksum(_) => 14,
+impl Part {
+    // The number of a part that is wrong.
+    fn number(self) -> u8
+        ensures { result ≡ part_number self }
+    {
+        match self {
+            Part::Request => 9,
+            Part::Item => 10,
+            Part::TooLong => 11,
+            Part::NotMatching => 12,
+            Part::Count => 13,
+            Part::Checksum(_) => 14,
+        }
+    }
+
+    // Where the part begins in the message, counted from 0.
+    fn place(self) -> u16
+        ensures { result ≡ part_place self }
+    {
+        match self {
+            Part::Request => 8,
+            Part::Item => 9,
+            Part::TooLong => 11,
+            Part::NotMatching => 11,
+            Part::Count => 1,
+            Part::Checksum(place) => place,
+        }
     }
 }
 
-// Where the part begins in the message, counted from 0.
-fn part_place(p: Part) -> u16
-    ensures { result ≡ part_place p }
-{
-    match p {
-        Part::Request => 8,
-        Part::Item => 9,
-        Part::TooLong => 11,
-        Part::NotMatching => 11,
-        Part::Count => 1,
-        Part::Checksum(place) => place,
+impl Answer {
+    // The answer's number.
+    pub fn number(self) -> u8
+        ensures { result ≡ number_of self }
+    {
+        match self {
+            Answer::Done => 0,
+            Answer::AreaTooSmall => 1,
+            Answer::NoSuchPanel => 2,
+            Answer::WrongLength => 3,
+            Answer::NotForUs => 4,
+            Answer::EnvelopeWrong => 5,
+            Answer::NotUnderstood => 6,
+            Answer::BadConfiguration => 7,
+            Answer::StatusByBroadcast => 8,
+            Answer::PartWrong(part) => part.number(),
+        }
+    }
+
+    // The place that goes with the answer: 0 but for a wrong part.
+    pub fn place(self) -> u16
+        ensures { result ≡ answer_place self }
+    {
+        match self {
+            Answer::PartWrong(part) => part.place(),
+            _ => 0,
+        }
     }
 }
 
-// The answer's number.
-pub fn answer_number(a: Answer) -> u8
-    ensures { result ≡ number_of a }
-{
-    match a {
-        Answer::Done => 0,
-        Answer::AreaTooSmall => 1,
-        Answer::NoSuchPanel => 2,
-        Answer::WrongLength => 3,
-        Answer::NotForUs => 4,
-        Answer::EnvelopeWrong => 5,
-        Answer::NotUnderstood => 6,
-        Answer::BadConfiguration => 7,
-        Answer::StatusByBroadcast => 8,
-        Answer::PartWrong(p) => part_number(p),
-    }
-}
-
-// The place that goes with the answer: 0 but for a wrong part.
-pub fn answer_place(a: Answer) -> u16
-    ensures { result ≡ answer_place a }
-{
-    match a {
-        Answer::Done => 0,
-        Answer::AreaTooSmall => 0,
-        Answer::NoSuchPanel => 0,
-        Answer::WrongLength => 0,
-        Answer::NotForUs => 0,
-        Answer::EnvelopeWrong => 0,
-        Answer::NotUnderstood => 0,
-        Answer::BadConfiguration => 0,
-        Answer::StatusByBroadcast => 0,
-        Answer::PartWrong(p) => part_place(p),
-    }
-}
-
-// "A group ID is never taken for a unit ID, though each is one byte": each has a type of its own.
-#[repr(C)]
+// What a message did to the record R of the panel that it is for: the record after it, the answer, and the reply's length.
 #[derive(Clone, Copy)]
+pub struct Outcome<R> {
+    pub after: R,
+    pub answer: Answer,
+    pub len: usize,
+}
+
+impl<R> Outcome<R> {
+    // A refusal: the record as it was, and no reply.
+    pub fn refused(after: R, answer: Answer) -> Outcome<R>
+        ensures after { result.after ≡ after }
+        ensures answer { result.answer ≡ answer }
+        ensures len { result.len ≡ 0 }
+    {
+        Outcome {
+            after,
+            answer,
+            len: 0,
+        }
+    }
+}
+
+// "A group ID is never taken for a unit ID, though each is one byte": each has a type of its own,
+// and like is compared with like only.
+#[repr(C)]
+#[derive(Clone, Copy, PartialEq, Eq)]
 pub struct GroupId(pub u8);
 
 #[repr(C)]
-#[derive(Clone, Copy)]
+#[derive(Clone, Copy, PartialEq, Eq)]
 pub struct UnitId(pub u8);
-
-// Like is compared with like only.
-pub fn same_group(a: GroupId, b: GroupId) -> bool
-    ensures { result ≡ eqb a.0 b.0 }
-{
-    a.0 == b.0
-}
-
-pub fn same_unit(a: UnitId, b: UnitId) -> bool
-    ensures { result ≡ eqb a.0 b.0 }
-{
-    a.0 == b.0
-}
