@@ -4,3 +4,4 @@ pub mod Numerals
 pub mod Plain
 pub mod Powers
 pub mod Taken
+pub mod Texts

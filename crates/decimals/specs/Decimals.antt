@@ -1,7 +1,8 @@
 -- Decimal digits, the highest first.
-use Rattle.std.specs.Prelude.{ℕ, zero, suc, ◌+◌, ◌-◌, ◌*◌, ◌/◌, ◌%◌, ◌^◌, Bool, not, cond, ◌&&◌, List, [], ◌∷◌, ◌++◌, length, get_or, replicate, eqb, leb, ltb, Option, Some, None}
+use Rattle.std.specs.Prelude.{ℕ, zero, suc, ◌+◌, ◌-◌, ◌*◌, ◌/◌, ◌%◌, ◌^◌, Bool, not, cond, ◌&&◌, List, [], ◌∷◌, length, get_or, eqb, leb, ltb, Option, Some, None}
 use Rattle.laws.specs.Lists.{every}
-use Rattle.decimals.specs.declared.Numeral.{Numeral}
+use Rattle.decimals.specs.declared.Text.{Text}
+use Rattle.decimals.specs.Texts.{text}
 
 -- a byte `0` to `9`
 unfoldable pub is_digit : ℕ → Bool
@@ -38,5 +39,5 @@ unfoldable pub numeral : ℕ → List ℕ
 numeral v = cond (ltb v 10) (in_digits 1 v) (cond (ltb v 100) (in_digits 2 v) (in_digits 3 v))
 
 -- the same at the front of three bytes, and how many of them it fills
-unfoldable pub spelled : ℕ → Numeral
-spelled v = record { bytes = numeral v ++ replicate (3 - length (numeral v)) 0; len = length (numeral v) }
+unfoldable pub spelled : ℕ → Text 3
+spelled v = text 3 (numeral v)

@@ -1,16 +1,25 @@
 // Decimals in and out: what digits write, and the digits that write a number.
 #![tactic(auto)]
 
-ghost use Rattle.std.specs.Prelude.{◌≡◌, true, cond, ◌+◌, ◌-◌, ◌/◌, ◌%◌, ◌^◌, ◌<◌, ◌≤◌, ltb, length};
+ghost use Rattle.std.specs.Prelude.{◌≡◌, true, cond, ◌+◌, ◌-◌, ◌/◌, ◌%◌, ◌^◌, ◌<◌, ◌≤◌, ltb, length, take};
 ghost use Rattle.laws.specs.Lists.{every};
 ghost use Rattle.decimals.specs.Decimals.{is_digit, decimal, in_digits, read_digits, leads_zero, up_to, spelled};
 ghost use Rattle.decimals.specs.Plain.{width};
 
-// A number without leading zeros: so many bytes, then zeros.
+// A text of at most N bytes: so many bytes, then zeros.
 #[derive(Clone, Copy)]
-pub struct Numeral {
-    pub bytes: [u8; 3],
+pub struct Text<const N: usize> {
+    pub bytes: [u8; N],
     pub len: usize,
+}
+
+impl<const N: usize> Text<N> {
+    // The bytes of the text.
+    pub fn as_slice(&self) -> &[u8]
+        ensures { result.now ≡ take self.now.len self.now.bytes }
+    {
+        &self.bytes[..self.len.min(N)]
+    }
 }
 
 // A byte `0` to `9`.
@@ -140,24 +149,24 @@ pub fn digits4(v: u16) -> [u8; 4]
 }
 
 // A byte's number without leading zeros.
-#[tactic(auto, unfolding(crate::specs::Decimals::spelled, crate::specs::Decimals::numeral, crate::specs::Decimals::in_digits))]
-pub fn numeral_of(v: u8) -> Numeral
+#[tactic(auto, unfolding(crate::specs::Decimals::spelled, crate::specs::Texts::text, crate::specs::Decimals::numeral, crate::specs::Decimals::in_digits))]
+pub fn numeral_of(v: u8) -> Text<3>
     ensures { result ≡ spelled v }
 {
     let d = ten_digits(v as u32, 7);
     if v < 10 {
-        return Numeral {
+        return Text {
             bytes: [d[9], 0, 0],
             len: 1,
         };
     }
     if v < 100 {
-        return Numeral {
+        return Text {
             bytes: [d[8], d[9], 0],
             len: 2,
         };
     }
-    Numeral {
+    Text {
         bytes: [d[7], d[8], d[9]],
         len: 3,
     }
