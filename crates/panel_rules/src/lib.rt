@@ -14,129 +14,72 @@ use settings::most_values;
 use terms::{GroupId, UnitId};
 
 // "SHIFTH or SHIFTV with -30 to +30."
+#[tactic(auto, unfolding(panels::specs::Valid::ok_shift))]
 fn shift_ok(z: i8) -> bool
     ensures { result ≡ ok_shift z }
 {
-    if -30 <= z {
-        return z <= 30;
-    }
-    false
+    (-30..=30).contains(&z)
 }
 
 // A bias: "-1024 to 1023".
+#[tactic(auto, unfolding(panels::specs::Valid::ok_bias))]
 fn bias_ok(z: i16) -> bool
     ensures { result ≡ ok_bias z }
 {
-    if -1024 <= z {
-        return z <= 1023;
-    }
-    false
+    (-1024..=1023).contains(&z)
 }
 
+#[tactic(auto, unfolding(panels::specs::Valid::ok_inputs))]
 fn inputs_ok(i: Inputs) -> bool
     ensures { result ≡ ok_inputs i }
 {
-    let connectors = CONNECTORS;
-    if !is_listed(&connectors, i.used) {
-        return false;
-    }
-    let presets = PRESETS;
-    if !is_listed(&presets, i.preset) {
-        return false;
-    }
-    let on = i.on;
-    let ones = [1u8; 10];
-    are_within(&on, &ones)
+    is_listed(&CONNECTORS, i.used) && is_listed(&PRESETS, i.preset) && are_within(&i.on, &[1; 10])
 }
 
-// Here and in what follows on the white balance one flag is lowered and there is no way out: a box is judged at every message, and so
-// the compiler asks all three numbers at once.
+// The white balance is asked with `&`, which has no way out: a box is judged at every message, and so the compiler asks all three
+// numbers at once.
 fn gains_ok(g: [u16; 3]) -> bool
     ensures { result ≡ every ok_gain g }
 {
-    let mut ok = true;
-    if 4095 < g[0] {
-        ok = false;
-    }
-    if 4095 < g[1] {
-        ok = false;
-    }
-    if 4095 < g[2] {
-        ok = false;
-    }
-    ok
+    g.iter().fold(true, |ok, x| ok & (*x <= 4095))
 }
 
 fn biases_ok(z: [i16; 3]) -> bool
     ensures { result ≡ every ok_bias z }
 {
-    let mut ok = true;
-    if !bias_ok(z[0]) {
-        ok = false;
-    }
-    if !bias_ok(z[1]) {
-        ok = false;
-    }
-    if !bias_ok(z[2]) {
-        ok = false;
-    }
-    ok
+    z.iter().fold(true, |ok, x| ok & bias_ok(*x))
 }
 
+#[tactic(auto, unfolding(panels::specs::Valid::ok_balance))]
 fn balance_ok(b: Balance) -> bool
     ensures { result ≡ ok_balance b }
 {
-    let g = b.gains;
-    let mut ok = gains_ok(g);
-    let z = b.biases;
-    if !biases_ok(z) {
-        ok = false;
-    }
-    ok
+    gains_ok(b.gains) & biases_ok(b.biases)
 }
 
 fn shifts_ok(z: [i8; 2]) -> bool
     ensures { result ≡ every ok_shift z }
 {
-    if !shift_ok(z[0]) {
-        return false;
-    }
-    shift_ok(z[1])
+    shift_ok(z[0]) && shift_ok(z[1])
 }
 
 // Every setting of family W is in its range.
+#[tactic(auto, unfolding(panels::specs::Valid::ok_w))]
 fn w_ok(w: WRecord) -> bool
     ensures { result ≡ ok_w w }
 {
-    let settings = w.settings;
-    let most = most_values();
-    if !are_within(&settings, &most) {
-        return false;
-    }
-    let z = w.shifts;
-    if !shifts_ok(z) {
-        return false;
-    }
-    let i = w.inputs;
-    if !inputs_ok(i) {
-        return false;
-    }
-    let b = w.balance;
-    balance_ok(b)
+    are_within(&w.settings, &most_values())
+        && shifts_ok(w.shifts)
+        && inputs_ok(w.inputs)
+        && balance_ok(w.balance)
 }
 
 // The input's type and port.
+#[tactic(auto, unfolding(panels::specs::Valid::ok_input))]
 fn input_ok(kind: u8, port: u16) -> bool
     ensures { result ≡ ok_input kind port }
 {
-    let kinds = KINDS;
-    if !is_listed(&kinds, kind) {
-        return false;
-    }
-    if port < 1 {
-        return false;
-    }
-    port <= 9999
+    is_listed(&KINDS, kind) && (1..=9999).contains(&port)
 }
 
 // Every setting of family K is in its range.
@@ -144,22 +87,12 @@ fn input_ok(kind: u8, port: u16) -> bool
 fn k_ok(k: KRecord) -> bool
     ensures { result ≡ ok_k k }
 {
-    if 1 < k.power {
-        return false;
-    }
-    if 1 < k.amut {
-        return false;
-    }
-    if 1 < k.pmut {
-        return false;
-    }
-    if MOST_VOLUME < k.volume {
-        return false;
-    }
-    if 2 < k.scene {
-        return false;
-    }
-    input_ok(k.kind, k.port)
+    k.power <= 1
+        && k.amut <= 1
+        && k.pmut <= 1
+        && k.volume <= MOST_VOLUME
+        && k.scene <= 2
+        && input_ok(k.kind, k.port)
 }
 
 // "A W panel has a group ID 1 to 99 and a unit ID 1 to 99."
@@ -167,47 +100,25 @@ fn k_ok(k: KRecord) -> bool
 fn ids_ok(g: GroupId, u: UnitId) -> bool
     ensures { result ≡ ok_ids g u }
 {
-    if g.0 < 1 {
-        return false;
-    }
-    if 99 < g.0 {
-        return false;
-    }
-    if u.0 < 1 {
-        return false;
-    }
-    u.0 <= 99
+    (1..=99).contains(&g.0) && (1..=99).contains(&u.0)
 }
 
 // "A K panel has 0 for both."
+#[tactic(auto, unfolding(panels::specs::Valid::zero_ids))]
 fn ids_zero(g: GroupId, u: UnitId) -> bool
     ensures { result ≡ zero_ids g u }
 {
-    if g.0 != 0 {
-        return false;
-    }
-    u.0 == 0
+    g.0 == 0 && u.0 == 0
 }
 
 // One panel by itself: its family, its IDs, and its own family's settings.
+#[tactic(auto, unfolding(panels::specs::Valid::ok_panel, panels::specs::Valid::ok_family))]
 pub fn panel_ok(p: Panel) -> bool
     ensures { result ≡ ok_panel p }
 {
-    let g = p.group;
-    let u = p.unit;
-    if p.family == FAMILY_W {
-        if !ids_ok(g, u) {
-            return false;
-        }
-        let w = p.w;
-        return w_ok(w);
+    match p.family {
+        FAMILY_W => ids_ok(p.group, p.unit) && w_ok(p.w),
+        FAMILY_K => ids_zero(p.group, p.unit) && k_ok(p.k),
+        _ => false,
     }
-    if p.family != FAMILY_K {
-        return false;
-    }
-    if !ids_zero(g, u) {
-        return false;
-    }
-    let k = p.k;
-    k_ok(k)
 }
