@@ -1,5 +1,6 @@
 pub mod Areas
 pub mod Conditions
+pub mod Library
 pub mod Lists
 pub mod Numbers
 pub mod Runs
