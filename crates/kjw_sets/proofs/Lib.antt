@@ -1,2 +1,0 @@
-pub mod Parameters
-pub mod Determined
