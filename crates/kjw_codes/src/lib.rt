@@ -4,35 +4,32 @@
 ghost use Rattle.std.specs.Prelude.{◌≡◌};
 ghost use Rattle.kjw_codes.specs.Presses.{pressed, code_order};
 
-use decimals::{Number, read_digits};
-use kjw_sets::{Heard, Order};
+use decimals::read_digits;
+use kjw_sets::Order;
 use remote::{Button, button_of};
 
 // What a button orders.
-fn press(b: Button) -> Heard
+fn press(b: Button) -> Order
     ensures { result ≡ pressed b }
 {
     match b {
-        Button::Unlisted => Heard::NotUnderstood,
-        Button::Idle => Heard::Understood(Order::Pass),
-        Button::Louder => Heard::Understood(Order::Louder),
-        Button::Softer => Heard::Understood(Order::Softer),
-        Button::Mute => Heard::Understood(Order::ToggleAudioMute),
-        Button::Picture => Heard::Understood(Order::TogglePictureMute),
-        Button::Power => Heard::Understood(Order::TogglePower),
-        Button::Hdmi(port) => Heard::Understood(Order::SetInput(1, port)),
+        Button::Idle => Order::Pass,
+        Button::Louder => Order::Louder,
+        Button::Softer => Order::Softer,
+        Button::Mute => Order::ToggleAudioMute,
+        Button::Picture => Order::TogglePictureMute,
+        Button::Power => Order::TogglePower,
+        Button::Hdmi(port) => Order::SetInput(1, port),
     }
 }
 
 // A control with the letters IRCC: what the code that its sixteen digits write orders.
-pub fn code_order(p: &[u8]) -> Heard
+#[tactic(auto, unfolding(crate::specs::Presses::code_order, crate::specs::Presses::is_code, decimals::specs::Decimals::read_digits))]
+pub fn code_order(p: &[u8]) -> Option<Order>
     ensures { result ≡ code_order p.now }
 {
     if p.len() != 16 {
-        return Heard::NotUnderstood;
+        return None;
     }
-    let Number::Is(code) = read_digits(p) else {
-        return Heard::NotUnderstood;
-    };
-    press(button_of(code))
+    button_of(read_digits(p)?).map(press)
 }

@@ -9,7 +9,7 @@ use decimals::read_digits;
 use panels::{KINDS, MOST_VOLUME};
 
 // What an enquiry asks for and a notice tells: POWR, AMUT, PMUT, VOLU, INPT, SCEN.
-#[derive(Clone, Copy, PartialEq, Eq)]
+#[derive(Clone, Copy)]
 pub enum State {
     Power,
     AudioMute,
@@ -37,46 +37,56 @@ pub enum Order {
     Ask(State),
 }
 
-// A state's letters.
-pub fn state_letters(s: State) -> [u8; 4]
-    ensures { result ≡ state_letters s }
-{
-    match s {
-        State::Power => *b"POWR",
-        State::AudioMute => *b"AMUT",
-        State::PictureMute => *b"PMUT",
-        State::Volume => *b"VOLU",
-        State::Input => *b"INPT",
-        State::Scene => *b"SCEN",
+impl State {
+    // A state's letters.
+    #[tactic(auto, unfolding(crate::specs::Words::state_letters))]
+    pub fn letters(self) -> [u8; 4]
+        ensures { result ≡ state_letters self }
+    {
+        match self {
+            State::Power => *b"POWR",
+            State::AudioMute => *b"AMUT",
+            State::PictureMute => *b"PMUT",
+            State::Volume => *b"VOLU",
+            State::Input => *b"INPT",
+            State::Scene => *b"SCEN",
+        }
     }
 }
 
 // "Fifteen `0` and 0 or 1."
-#[tactic(auto, unfolding(crate::specs::Sets::chosen_from))]
+#[tactic(auto, using(crate::proofs::Compared::compared), unfolding(crate::specs::Sets::chosen_from))]
 fn switch_of(p: &[u8]) -> Option<u8>
     ensures { result ≡ chosen switches p.now }
 {
-    match p {
-        b"0000000000000000" => Some(0),
-        b"0000000000000001" => Some(1),
-        _ => None,
+    if p == b"0000000000000000".as_slice() {
+        return Some(0);
     }
+    if p == b"0000000000000001".as_slice() {
+        return Some(1);
+    }
+    None
 }
 
 // "SCEN `auto`, `auto24pSync` or `general`, padded with `#`."
-#[tactic(auto, unfolding(crate::specs::Sets::chosen_from))]
+#[tactic(auto, using(crate::proofs::Compared::compared), unfolding(crate::specs::Sets::chosen_from))]
 fn scene_of(p: &[u8]) -> Option<u8>
     ensures { result ≡ chosen scenes p.now }
 {
-    match p {
-        b"auto############" => Some(0),
-        b"auto24pSync#####" => Some(1),
-        b"general#########" => Some(2),
-        _ => None,
+    if p == b"auto############".as_slice() {
+        return Some(0);
     }
+    if p == b"auto24pSync#####".as_slice() {
+        return Some(1);
+    }
+    if p == b"general#########".as_slice() {
+        return Some(2);
+    }
+    None
 }
 
 // "VOLU, 16 decimal digits, 0 to 100 (house)."
+#[tactic(auto, unfolding(crate::specs::Sets::volume_order, crate::specs::Sets::is_volume, decimals::specs::Decimals::read_digits))]
 fn volume_order(p: &[u8]) -> Option<Order>
     requires { length p.now ≡ 16 }
     ensures { result ≡ volume_order p.now }
@@ -89,6 +99,7 @@ fn volume_order(p: &[u8]) -> Option<Order>
 }
 
 // "INPT is seven `0`, type [..], four `0`, port [..]."
+#[tactic(auto, using(crate::proofs::Compared::compared), unfolding(crate::specs::Sets::is_padded))]
 fn is_padded(p: &[u8]) -> bool
     requires { length p.now ≡ 16 }
     ensures { result ≡ is_padded p.now }
@@ -109,6 +120,7 @@ fn input_of(kind: u64, port: u64) -> Option<Order>
 }
 
 // INPT's parameters: their digits write the type and the port.
+#[tactic(auto, using(crate::proofs::Parameters::kind_most, crate::proofs::Parameters::port_most), unfolding(crate::specs::Sets::input_order, decimals::specs::Decimals::read_digits))]
 fn input_order(p: &[u8]) -> Option<Order>
     requires { length p.now ≡ 16 }
     ensures { result ≡ input_order p.now }
@@ -120,6 +132,7 @@ fn input_order(p: &[u8]) -> Option<Order>
 }
 
 // A control with a state's letters: what its sixteen parameters order.
+#[tactic(auto, unfolding(crate::specs::Sets::set_of, crate::specs::Sets::set_by))]
 pub fn set_order(s: State, p: &[u8]) -> Option<Order>
     ensures { result ≡ set_of s p.now }
 {
