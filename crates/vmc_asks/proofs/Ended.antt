@@ -6,7 +6,7 @@ use mathlib.Core.List.{List, []}
 use Rattle.trimming.specs.Trimming.{unterminated, unspaced, trimmed}
 use Rattle.trimming.proofs.Trimmed.{Ended, ends_bare, trims, bare_trimmed}
 use Rattle.vmc_asks.specs.Asks.{read_words, read_data, is_question, asks_status}
-use Rattle.vmc_asks.specs.declared.Words.TheVariants.{NotUnderstood}
+use Rattle.std.specs.Prelude.{None}
 
 -- data with such an end asks what it asks without
 pub read_ended : (t d : List ℕ) → ends_bare t ≡ true → Ended t d → read_data d ≡ read_data t
@@ -14,7 +14,7 @@ unfolding read_data
 read_ended t d b e = ap read_words (trims t d b e ∙ sym (bare_trimmed t b))
 
 -- "Data of spaces alone, or of none, is not understood."
-pub none_understood : (d : List ℕ) → Ended [] d → read_data d ≡ NotUnderstood
+pub none_understood : (d : List ℕ) → Ended [] d → read_data d ≡ None
 unfolding ends_bare read_data read_words
 none_understood d e = ap read_words (trims [] d refl e)
 

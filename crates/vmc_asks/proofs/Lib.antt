@@ -1,3 +1,4 @@
 pub mod Determined
 pub mod Ended
+pub mod Fronts
 pub mod Signs

@@ -4,12 +4,11 @@
 ghost use Rattle.std.specs.Prelude.{◌≡◌, ◌≤◌};
 ghost use Rattle.settings.specs.Table.{most_shift};
 ghost use Rattle.setting_words.specs.Names.{chosen_by};
-ghost use Rattle.vmc_asks.specs.Asks.{level_of, signed, level_order, choice_order, shift_by, shift_order, value_order, read_set, read_get, read_words, read_data, is_question, asks_status};
+ghost use Rattle.vmc_asks.specs.Asks.{level_of, signed, shift_by, shift_order, value_order, read_set, read_get, read_words, read_data, is_question, asks_status};
 
-use decimals::{Number, plain_number};
-use octets::{begins_with, same_bytes};
+use decimals::plain_number;
 use setting_texts::lead_length;
-use setting_words::{Found, chosen, led, named};
+use setting_words::{chosen, led, named};
 use settings::{LEVEL_COUNT, MOST_LEVEL, MOST_SHIFT, SETTING_COUNT};
 use trimming::trimmed_length;
 
@@ -26,37 +25,20 @@ pub enum Order {
     Get(usize),
 }
 
-// What the data says: an order, or nothing that is understood (6).
-#[derive(Clone, Copy)]
-pub enum Words {
-    Understood(Order),
-    NotUnderstood,
-}
-
 // "0 to 100 (no sign, no leading zero)": the number, or none.
-fn level_of(s: &[u8]) -> Number
+fn level_of(s: &[u8]) -> Option<u8>
     ensures { result ≡ level_of s.now }
 {
-    plain_number(s, MOST_LEVEL as u32)
+    let v = plain_number(s, MOST_LEVEL as u32)?;
+    Some(v as u8)
 }
 
-// "A word that should be a number and is none ends the reading with 6."
-fn level_order(k: usize, s: &[u8]) -> Words
-    ensures { result ≡ level_order k (level_of s.now) }
+// A choice's word: its place among the words, or none.
+fn choice_of(k: usize, s: &[u8]) -> Option<u8>
+    ensures { result ≡ chosen_by k s.now }
 {
-    let Number::Is(v) = level_of(s) else {
-        return Words::NotUnderstood;
-    };
-    Words::Understood(Order::Set(k, v as u8))
-}
-
-fn choice_order(k: usize, s: &[u8]) -> Words
-    ensures { result ≡ choice_order k (chosen_by k s.now) }
-{
-    let Found::At(v) = chosen(k, s) else {
-        return Words::NotUnderstood;
-    };
-    Words::Understood(Order::Set(k, v as u8))
+    let v = chosen(k, s)?;
+    Some(v as u8)
 }
 
 // A size with its sign.
@@ -71,106 +53,88 @@ fn signed_of(minus: bool, size: u8) -> i8
 }
 
 // A shift of at least so much and at most 30.
-fn shift_by(axis: usize, minus: bool, least: u64, s: &[u8]) -> Words
+fn shift_by(axis: usize, minus: bool, least: u8, s: &[u8]) -> Option<Order>
     ensures { result ≡ shift_by axis minus least (level_of s.now) }
 {
-    let Number::Is(n) = level_of(s) else {
-        return Words::NotUnderstood;
-    };
-    if n < least {
-        return Words::NotUnderstood;
+    let n = level_of(s)?;
+    if !(least..=MOST_SHIFT as u8).contains(&n) {
+        return None;
     }
-    if MOST_SHIFT < n {
-        return Words::NotUnderstood;
-    }
-    Words::Understood(Order::Shift(axis, signed_of(minus, n as u8)))
+    Some(Order::Shift(axis, signed_of(minus, n)))
 }
 
 // "-30 to +30 (sign allowed save before 0, no leading zero)."
-fn shift_order(axis: usize, s: &[u8]) -> Words
+fn shift_order(axis: usize, s: &[u8]) -> Option<Order>
     ensures { result ≡ shift_order axis s.now }
 {
-    if begins_with(s, b"+") {
-        return shift_by(axis, false, 1, &s[1..]);
+    if let Some(size) = s.strip_prefix(b"+") {
+        return shift_by(axis, false, 1, size);
     }
-    if begins_with(s, b"-") {
-        return shift_by(axis, true, 1, &s[1..]);
+    if let Some(size) = s.strip_prefix(b"-") {
+        return shift_by(axis, true, 1, size);
     }
     shift_by(axis, false, 0, s)
 }
 
-// What the words behind name k ask.
-fn value_order(k: usize, s: &[u8]) -> Words
+// What the words behind name k ask. "A word that should be a number and is none ends the reading with 6."
+fn value_order(k: usize, s: &[u8]) -> Option<Order>
     ensures { result ≡ value_order k s.now }
 {
     if k < LEVEL_COUNT {
-        return level_order(k, s);
+        return Some(Order::Set(k, level_of(s)?));
     }
     if k < SETTING_COUNT {
-        return choice_order(k, s);
+        return Some(Order::Set(k, choice_of(k, s)?));
     }
     shift_order(k - SETTING_COUNT, s)
 }
 
 // The words behind STATset.
-fn read_set(s: &[u8]) -> Words
+fn read_set(s: &[u8]) -> Option<Order>
     ensures { result ≡ read_set s.now }
 {
-    if same_bytes(s, b"RESET") {
-        return Words::Understood(Order::Reset);
+    if s == b"RESET".as_slice() {
+        return Some(Order::Reset);
     }
-    let Found::At(k) = led(s) else {
-        return Words::NotUnderstood;
-    };
-    let n = lead_length(k);
-    value_order(k, &s[n..])
+    let k = led(s)?;
+    value_order(k, &s[lead_length(k)..])
 }
 
 // The words behind STATget.
-fn read_get(s: &[u8]) -> Words
+fn read_get(s: &[u8]) -> Option<Order>
     ensures { result ≡ read_get s.now }
 {
-    let Found::At(k) = named(s) else {
-        return Words::NotUnderstood;
-    };
-    Words::Understood(Order::Get(k))
+    let k = named(s)?;
+    Some(Order::Get(k))
 }
 
-// What the words ask.
-fn read_words(d: &[u8]) -> Words
+// What the words ask, if they are understood: any other data is 6.
+fn read_words(d: &[u8]) -> Option<Order>
     ensures { result ≡ read_words d.now }
 {
-    if begins_with(d, b"STATset ") {
-        return read_set(&d[8..]);
+    if let Some(rest) = d.strip_prefix(b"STATset ") {
+        return read_set(rest);
     }
-    if begins_with(d, b"STATget ") {
-        return read_get(&d[8..]);
-    }
-    Words::NotUnderstood
+    read_get(d.strip_prefix(b"STATget ")?)
 }
 
 // What the data asks: its words, without the end that some consoles give their strings (document 02, §2).
-pub fn read_data(d: &[u8]) -> Words
+pub fn read_data(d: &[u8]) -> Option<Order>
     ensures { result ≡ read_data d.now }
 {
-    let n = trimmed_length(d);
-    read_words(&d[..n])
+    read_words(&d[..trimmed_length(d)])
 }
 
 // "STATget alone or begins with STATget and a space", whatever follows.
 fn is_question(s: &[u8]) -> bool
     ensures { result ≡ is_question s.now }
 {
-    if same_bytes(s, b"STATget") {
-        return true;
-    }
-    begins_with(s, b"STATget ")
+    s == b"STATget".as_slice() || s.starts_with(b"STATget ")
 }
 
 // Whether the data asks for a status, known or not: its words, without the end of their string.
 pub fn asks_status(d: &[u8]) -> bool
     ensures { result ≡ asks_status d.now }
 {
-    let n = trimmed_length(d);
-    is_question(&d[..n])
+    is_question(&d[..trimmed_length(d)])
 }
