@@ -4,7 +4,7 @@ use mathlib.Core.Bool.{Bool, true, false, cond, ◌&&◌}
 use mathlib.Core.List.{List, [], ◌∷◌, ◌++◌}
 use Prim.Native.Nat.{ℕ, zero, suc, ◌+◌, ◌-◌, ◌*◌, ◌/◌, ◌%◌, ◌^◌, ◌<◌, ◌≤◌}
 use native.Mathlib.Omega.{arith}
-use native.Mathlib.Nat.{pow-succ', pow-zero, mul_assoc, add-mul, add_assoc, mod-eq_of_lt, div-eq_of_lt, pow-le-pow_right, zero-mul, zero-add, mul-one, add-zero}
+use native.Mathlib.Nat.{pow-succ', pow-zero, mul_assoc, add-mul, add_assoc, mod-eq_of_lt, div-eq_of_lt, pow-le-pow_right, mul-one, add-zero}
 use native.Mathlib.Numerals.{add-one}
 use lib.Arith.{digits_lt, digits_div}
 use lib.ListN.{length, get_or, drop, replicate}
@@ -16,6 +16,7 @@ use Rattle.laws.proofs.Numbers.{positive, above, first_under}
 use Rattle.laws.proofs.Lists.{from, behind, every_from}
 use Rattle.decimals.specs.Decimals.{is_digit, decimal, in_digits, read_digits}
 use Rattle.std.specs.Prelude.{Option, Some, None}
+use Rattle.std.specs.List.{list_all}
 
 -- a digit is `0` to `9`
 pub digit_low : (b : ℕ) → is_digit b ≡ true → 0x30 ≤ b
@@ -25,6 +26,11 @@ digit_low b e = leb-true 0x30 b (and_first (leb 0x30 b) (leb b 0x39) e)
 pub digit_high : (b : ℕ) → is_digit b ≡ true → b ≤ 0x39
 unfolding is_digit
 digit_high b e = leb-true b 0x39 (and_second (leb 0x30 b) (leb b 0x39) e)
+
+-- every byte is a digit: in the library's word
+pub every_digit : (l : List ℕ) → list_all is_digit l ≡ every is_digit l
+every_digit [] = refl
+every_digit (b ∷ l) = rw (every_digit l)
 
 digit_small : (b : ℕ) → is_digit b ≡ true → b - 0x30 < 10
 digit_small b e = let h = digit_high b e in omega arith
@@ -85,14 +91,6 @@ pub record Reading (l : List ℕ) (i v : ℕ) : Type 0 where
   pub fits : v < 10 ^ i
   pub digits : every is_digit (drop i l) ≡ true
   pub is : decimal l ≡ v * 10 ^ length (drop i l) + decimal (drop i l)
-
-pub reading_none : (l : List ℕ) → every is_digit l ≡ true → Reading l 0 0
-reading_none l e = record {
-  here = omega arith;
-  fits = rw pow-zero (omega arith);
-  digits = e;
-  is = sym (rw (zero-mul, zero-add));
-}
 
 -- the digit that comes next
 pub digit_next : (l : List ℕ) (i v : ℕ) → Reading l i v → i < length l → is_digit (get_or l i 0) ≡ true

@@ -40,14 +40,7 @@ over : (most : ℕ) (s : List ℕ) → most < decimal s → up_to most s ≡ Non
 unfolding up_to
 over most s h = rw (lt-leb (decimal s) most h, never (is_numeral s))
 
--- a text of fewer than two bytes has no leading zero
-pub short_no_lead : (s : List ℕ) → length s < 2 → leads_zero s ≡ false
-unfolding leads_zero
-short_no_lead [] h = refl
-short_no_lead (x ∷ []) h = refl
-short_no_lead (x ∷ y ∷ s) h = absurd (omega arith)
-
-pub long_lead : (s : List ℕ) → 2 ≤ length s → leads_zero s ≡ eqb (get_or s 0 0) 0x30
+long_lead : (s : List ℕ) → 2 ≤ length s → leads_zero s ≡ eqb (get_or s 0 0) 0x30
 unfolding leads_zero
 long_lead s h = rw (ne_eqb (length s) 1 (λ e. omega arith))
 

@@ -18,10 +18,6 @@ powers = 1000000000 ∷ 100000000 ∷ 10000000 ∷ 1000000 ∷ 100000 ∷ 10000 
 pub power : (n : ℕ) → n < 10 → get_or powers n 0 ≡ 10 ^ (9 - n)
 power n h = eqb-true (get_or powers n 0) (10 ^ (9 - n)) (sure _ (below 10 (λ (j : ℕ). eqb (get_or powers j 0) (10 ^ (9 - j))) tt n h))
 
--- the same, by the exponent
-pub ten : (k : ℕ) → k < 10 → get_or powers (9 - k) 0 ≡ 10 ^ k
-ten k h = power (9 - k) (omega arith) ∙ ap (λ (j : ℕ). 10 ^ j) (omega arith)
-
 -- each is a word
 pub power_small : (j : ℕ) → j < 10 → 10 ^ j ≤ 1000000000
 power_small j h =

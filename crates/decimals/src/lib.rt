@@ -22,28 +22,11 @@ impl<const N: usize> Text<N> {
     }
 }
 
-// A byte `0` to `9`.
-fn is_digit(b: u8) -> bool
-    ensures { result ≡ is_digit b }
-{
-    if b < b'0' {
-        return false;
-    }
-    b <= b'9'
-}
-
 // Decimal digits and nothing else.
 fn are_digits(p: &[u8]) -> bool
     ensures { result ≡ every is_digit p.now }
 {
-    let mut i = 0;
-    while i < p.len() {
-        if !is_digit(p[i]) {
-            return false;
-        }
-        i += 1;
-    }
-    true
+    p.iter().all(|b| b.is_ascii_digit())
 }
 
 // The number that at most sixteen digits write.
@@ -52,11 +35,9 @@ fn number_in(p: &[u8]) -> u64
     requires p_value { every is_digit p.now ≡ true }
     ensures { result ≡ decimal p.now }
 {
-    let mut i = 0;
-    let mut v = 0u64;
-    while i < p.len() {
-        v = v * 10 + (p[i] - b'0') as u64;
-        i += 1;
+    let mut v = 0;
+    for digit in p {
+        v = v * 10 + (*digit - b'0') as u64;
     }
     v
 }
@@ -66,42 +47,29 @@ fn number_in(p: &[u8]) -> u64
 pub fn read_digits(p: &[u8]) -> Option<u64>
     ensures { result ≡ read_digits p.now }
 {
-    if p.len() < 1 {
-        return None;
-    }
-    if 16 < p.len() {
-        return None;
-    }
-    if !are_digits(p) {
+    if !(1..=16).contains(&p.len()) || !are_digits(p) {
         return None;
     }
     Some(number_in(p))
 }
 
 // A leading zero: `0` alone has none.
+#[tactic(auto, unfolding(crate::specs::Decimals::leads_zero))]
 fn leads_zero(s: &[u8]) -> bool
     ensures { result ≡ leads_zero s.now }
 {
-    if s.len() < 2 {
-        return false;
-    }
-    s[0] == b'0'
+    s.len() != 1 && s.first() == Some(&b'0')
 }
 
 // A number without sign or leading zero, up to a most. One of more than sixteen digits is over any most.
+#[tactic(auto, using(crate::proofs::Numerals::zero_no_number, crate::proofs::Numerals::plain_number))]
 pub fn plain_number(s: &[u8], most: u32) -> Option<u64>
     ensures { result ≡ up_to most s.now }
 {
     if leads_zero(s) {
         return None;
     }
-    let Some(v) = read_digits(s) else {
-        return None;
-    };
-    if (most as u64) < v {
-        return None;
-    }
-    Some(v)
+    read_digits(s).filter(|v| *v <= u64::from(most))
 }
 
 // The powers of ten that a word holds, in the order of its ten digits: the highest first.
@@ -113,10 +81,7 @@ const POWERS: [u32; 10] = [
 fn comes_off(power: u32, rest: u32) -> u8
     ensures { result ≡ cond (ltb rest power) 0 1 }
 {
-    if rest < power {
-        return 0;
-    }
-    1
+    u8::from(power <= rest)
 }
 
 // The ten digits of a number that has only `0` before the place `from`: each power of ten is taken off as often as it goes. One loop
@@ -126,6 +91,7 @@ fn ten_digits(v: u32, from: usize) -> [u8; 10]
     requires v_bound { v < 10 ^ (10 - from) }
     ensures { result ≡ in_digits 10 v }
 {
+    // The table is built where it is named: here, once, and not in each turn.
     let powers = POWERS;
     let mut d = [b'0'; 10];
     let mut rest = v;
@@ -154,36 +120,28 @@ pub fn numeral_of(v: u8) -> Text<3>
     ensures { result ≡ spelled v }
 {
     let d = ten_digits(v as u32, 7);
-    if v < 10 {
-        return Text {
+    match v {
+        0..=9 => Text {
             bytes: [d[9], 0, 0],
             len: 1,
-        };
-    }
-    if v < 100 {
-        return Text {
+        },
+        10..=99 => Text {
             bytes: [d[8], d[9], 0],
             len: 2,
-        };
-    }
-    Text {
-        bytes: [d[7], d[8], d[9]],
-        len: 3,
+        },
+        _ => Text {
+            bytes: [d[7], d[8], d[9]],
+            len: 3,
+        },
     }
 }
 
 // How many digits a number takes.
+#[tactic(auto, using(crate::proofs::Plain::width_is, crate::proofs::Plain::width_zero))]
 pub fn width_of(v: u32) -> usize
     ensures { result ≡ width v }
 {
-    let mut k = 1;
-    while k < 10 {
-        if v < POWERS[9 - k] {
-            return k;
-        }
-        k += 1;
-    }
-    10
+    v.checked_ilog10().map_or(1, |n| n as usize + 1)
 }
 
 // The digit of a number at a place, 0 the last.
