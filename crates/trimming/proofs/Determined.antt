@@ -2,8 +2,7 @@
 use mathlib.Core.Path.{◌≡◌, sym, ◌∙◌}
 use mathlib.Core.List.{List}
 use Prim.Native.Nat.{ℕ}
-use lib.ListN.{length}
 use Rattle.trimming.specs.Trimming.{trimmed}
 
-pub trimmed_length_one : (d : List ℕ) (r r' : ℕ) → r ≡ length (trimmed d) → r' ≡ length (trimmed d) → r ≡ r'
-trimmed_length_one d r r' p q = p ∙ sym q
+pub trim_one : (d r r' : List ℕ) → r ≡ trimmed d → r' ≡ trimmed d → r ≡ r'
+trim_one d r r' p q = p ∙ sym q

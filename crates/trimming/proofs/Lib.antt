@@ -1,4 +1,4 @@
 pub mod Ends
 pub mod Trimmed
 pub mod Determined
-pub mod Lengths
+pub mod LastByte

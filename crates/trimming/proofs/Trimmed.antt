@@ -84,13 +84,6 @@ pub record Front (t d : List ℕ) : Type 0 where
 before : (t r : List ℕ) → Front t (t ++ r)
 before t r = let h = length-append t r in record { fits = omega (arith, h); front = take-append_seam t r }
 
-pub unterminated_front : (d : List ℕ) → Front (unterminated d) d
-unterminated_front d = go d (unterminated_from d)
-  where
-    go : (e : List ℕ) → Stops (unterminated d) e → Front (unterminated d) e
-    go _ stays = subst (Front (unterminated d)) (append-nil (unterminated d)) (before (unterminated d) [])
-    go _ stops = before (unterminated d) (0x00 ∷ [])
-
 pub ended_front : (t d : List ℕ) → Ended t d → Front t d
 ended_front t _ (bare n) = before t (replicate n 0x20)
 ended_front t _ (terminated n) = subst (Front t) (sym (append_assoc t (replicate n 0x20) (0x00 ∷ []))) (before t (replicate n 0x20 ++ (0x00 ∷ [])))

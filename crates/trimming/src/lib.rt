@@ -1,43 +1,36 @@
-// The end of a string as some consoles send it: how much is left of the data without it (document 02, §2).
+// The end of a string as some consoles send it: what is left of the data without it (document 02, §2).
 #![tactic(auto)]
 
-ghost use Rattle.std.specs.Prelude.{◌≡◌, length};
+ghost use Rattle.std.specs.Prelude.{◌≡◌};
 ghost use Rattle.trimming.specs.Trimming.{unterminated, unspaced, trimmed};
 
 // "One final 00h is taken off if there."
-#[tactic(auto, using(crate::proofs::Lengths::all_stays, crate::proofs::Lengths::one_goes))]
-fn unterminated_length(d: &[u8]) -> usize
-    ensures { result ≡ length (unterminated d.now) }
+#[tactic(auto, using(crate::proofs::LastByte::none_ends, crate::proofs::LastByte::all_stays, crate::proofs::LastByte::one_goes))]
+fn unterminated(d: &[u8]) -> &[u8]
+    ensures { result.now ≡ unterminated d.now }
 {
-    let n = d.len();
-    if n == 0 {
-        return 0;
+    match d {
+        [front @ .., 0x00] => front,
+        _ => d,
     }
-    if d[n - 1] != 0x00 {
-        return n;
-    }
-    n - 1
 }
 
 // "All spaces at the end", from the last one on.
-#[tactic(auto, using(crate::proofs::Lengths::all_of_front, crate::proofs::Lengths::space_goes))]
-fn unspaced_length(d: &[u8]) -> usize
-    ensures { result ≡ length (unspaced d.now) }
+#[tactic(auto, using(crate::proofs::LastByte::none_spaced, crate::proofs::LastByte::all_left, crate::proofs::LastByte::space_goes))]
+fn unspaced(d: &[u8]) -> &[u8]
+    ensures { result.now ≡ unspaced d.now }
 {
-    let mut n = d.len();
-    while 0 < n {
-        if d[n - 1] != b' ' {
-            return n;
-        }
-        n -= 1;
+    let mut left = d;
+    while let [front @ .., b' '] = left {
+        left = front;
     }
-    0
+    left
 }
 
-// How many bytes of the data's front are left.
-pub fn trimmed_length(d: &[u8]) -> usize
-    ensures { result ≡ length (trimmed d.now) }
+// What is left of the data: its front.
+#[tactic(auto, unfolding(crate::specs::Trimming::trimmed))]
+pub fn trim(d: &[u8]) -> &[u8]
+    ensures { result.now ≡ trimmed d.now }
 {
-    let n = unterminated_length(d);
-    unspaced_length(&d[..n])
+    unspaced(unterminated(d))
 }

@@ -10,7 +10,7 @@ use decimals::plain_number;
 use setting_texts::lead_length;
 use setting_words::{chosen, led, named};
 use settings::{LEVEL_COUNT, MOST_LEVEL, MOST_SHIFT, SETTING_COUNT};
-use trimming::trimmed_length;
+use trimming::trim;
 
 // What the words order or ask. The number is the name's: 0 to 20 are the settings, 21 and 22 SHIFTH and SHIFTV.
 #[derive(Clone, Copy)]
@@ -119,10 +119,11 @@ fn read_words(d: &[u8]) -> Option<Order>
 }
 
 // What the data asks: its words, without the end that some consoles give their strings (document 02, §2).
+#[tactic(auto, unfolding(crate::specs::Asks::read_data))]
 pub fn read_data(d: &[u8]) -> Option<Order>
     ensures { result ≡ read_data d.now }
 {
-    read_words(&d[..trimmed_length(d)])
+    read_words(trim(d))
 }
 
 // "STATget alone or begins with STATget and a space", whatever follows.
@@ -133,8 +134,9 @@ fn is_question(s: &[u8]) -> bool
 }
 
 // Whether the data asks for a status, known or not: its words, without the end of their string.
+#[tactic(auto, unfolding(crate::specs::Asks::asks_status))]
 pub fn asks_status(d: &[u8]) -> bool
     ensures { result ≡ asks_status d.now }
 {
-    is_question(&d[..trimmed_length(d)])
+    is_question(trim(d))
 }
