@@ -6,15 +6,15 @@ ghost use Rattle.kjw_asks.specs.Frames.{letters_of};
 ghost use Rattle.kjw_asks.specs.Asks.{state_named, toggle_of, code_or_toggle, control_of, enquiry_of, is_ours, heard_of};
 
 use kjw_codes::code_order;
-use kjw_sets::{Heard, Order, State, set_order, state_letters};
-use octets::{byte_at, is_listed, same_bytes};
+use kjw_sets::{Order, State, set_order};
+use octets::byte_at;
 use terms::Answer;
 
-// The state that four letters name, if they name one.
+// Why a message orders nothing: it is refused with 3 or 4, or not understood (6).
 #[derive(Clone, Copy)]
-pub enum Named {
-    Is(State),
-    Nothing,
+pub enum Fault {
+    Refused(Answer),
+    NotUnderstood,
 }
 
 // The states that letters name.
@@ -27,7 +27,11 @@ const STATES: [State; 6] = [
     State::Scene,
 ];
 
+// The parameters of a frame that has none to give.
+const BLANK: [u8; 16] = [b'#'; 16];
+
 // The four letters of a message.
+#[tactic(auto, unfolding(crate::specs::Frames::letters_of))]
 pub fn letters_of(m: &[u8]) -> [u8; 4]
     ensures { result ≡ letters_of m.now }
 {
@@ -35,69 +39,61 @@ pub fn letters_of(m: &[u8]) -> [u8; 4]
 }
 
 // The state that four letters name.
-fn state_named(letters: [u8; 4]) -> Named
+
+fn state_named(letters: [u8; 4]) -> Option<State>
     ensures { result ≡ state_named letters }
 {
-    let states = STATES;
-    let mut i = 0;
-    while i < 6 {
-        let s = states[i];
-        let name = state_letters(s);
-        if same_bytes(&letters, &name) {
-            return Named::Is(s);
-        }
-        i += 1;
-    }
-    Named::Nothing
+    STATES.iter().find(|s| letters == s.letters()).copied()
 }
 
 // "TPOW and TPMU with sixteen `#`."
-fn toggle(letters: [u8; 4], p: &[u8]) -> Heard
+#[tactic(auto, using(laws::proofs::Library::same_pointwise), unfolding(crate::specs::Asks::toggle_of))]
+fn toggle(letters: [u8; 4], p: &[u8]) -> Option<Order>
     ensures { result ≡ toggle_of letters p.now }
 {
-    if !same_bytes(p, b"################") {
-        return Heard::NotUnderstood;
+    if p != BLANK.as_slice() {
+        return None;
     }
-    if same_bytes(&letters, b"TPOW") {
-        return Heard::Understood(Order::TogglePower);
+    if letters == *b"TPOW" {
+        return Some(Order::TogglePower);
     }
-    if same_bytes(&letters, b"TPMU") {
-        return Heard::Understood(Order::TogglePictureMute);
+    if letters == *b"TPMU" {
+        return Some(Order::TogglePictureMute);
     }
-    Heard::NotUnderstood
+    None
 }
 
 // IRCC, or a toggle.
-fn code_or_toggle(letters: [u8; 4], p: &[u8]) -> Heard
+#[tactic(auto, using(laws::proofs::Library::same_pointwise), unfolding(crate::specs::Asks::code_or_toggle))]
+fn code_or_toggle(letters: [u8; 4], p: &[u8]) -> Option<Order>
     ensures { result ≡ code_or_toggle letters p.now }
 {
-    if same_bytes(&letters, b"IRCC") {
+    if letters == *b"IRCC" {
         return code_order(p);
     }
     toggle(letters, p)
 }
 
 // A frame of type C.
-fn control(letters: [u8; 4], p: &[u8]) -> Heard
+#[tactic(auto, unfolding(crate::specs::Asks::control_of))]
+fn control(letters: [u8; 4], p: &[u8]) -> Option<Order>
     ensures { result ≡ control_of letters p.now }
 {
     match state_named(letters) {
-        Named::Is(s) => set_order(s, p),
-        Named::Nothing => code_or_toggle(letters, p),
+        Some(s) => set_order(s, p),
+        None => code_or_toggle(letters, p),
     }
 }
 
 // A frame of type E.
-fn enquire(letters: [u8; 4], p: &[u8]) -> Heard
+#[tactic(auto, using(laws::proofs::Library::same_pointwise), unfolding(crate::specs::Asks::enquiry_of))]
+fn enquire(letters: [u8; 4], p: &[u8]) -> Option<Order>
     ensures { result ≡ enquiry_of letters p.now }
 {
-    if !same_bytes(p, b"################") {
-        return Heard::NotUnderstood;
+    if p != BLANK.as_slice() {
+        return None;
     }
-    match state_named(letters) {
-        Named::Is(s) => Heard::Understood(Order::Ask(s)),
-        Named::Nothing => Heard::NotUnderstood,
-    }
+    state_named(letters).map(Order::Ask)
 }
 
 // `*S`, the footer, and a type C or E.
@@ -106,28 +102,26 @@ fn is_ours(m: &[u8]) -> bool
     requires { length m.now ≡ 24 }
     ensures { result ≡ is_ours m.now }
 {
-    if !same_bytes(&m[0..2], b"*S") {
-        return false;
-    }
-    if m[23] != 0x0A {
-        return false;
-    }
-    is_listed(b"CE", m[2])
+    m.starts_with(b"*S") && m[23] == 0x0A && matches!(m[2], b'C' | b'E')
 }
 
 // What a message says, whatever the panel.
-pub fn hear(m: &[u8]) -> Heard
+#[tactic(auto, unfolding(crate::specs::Asks::heard_of))]
+pub fn hear(m: &[u8]) -> Result<Order, Fault>
     ensures { result ≡ heard_of m.now }
 {
     if m.len() != 24 {
-        return Heard::Refused(Answer::WrongLength);
+        return Err(Fault::Refused(Answer::WrongLength));
     }
     if !is_ours(m) {
-        return Heard::Refused(Answer::NotForUs);
+        return Err(Fault::Refused(Answer::NotForUs));
     }
     let letters = letters_of(m);
-    if m[2] == b'C' {
-        return control(letters, &m[7..23]);
-    }
-    enquire(letters, &m[7..23])
+    let p = &m[7..23];
+    let order = if m[2] == b'C' {
+        control(letters, p)
+    } else {
+        enquire(letters, p)
+    };
+    order.ok_or(Fault::NotUnderstood)
 }

@@ -55,7 +55,7 @@ impl State {
 }
 
 // "Fifteen `0` and 0 or 1."
-#[tactic(auto, using(crate::proofs::Compared::compared), unfolding(crate::specs::Sets::chosen_from))]
+#[tactic(auto, using(laws::proofs::Library::same_pointwise), unfolding(crate::specs::Sets::chosen_from))]
 fn switch_of(p: &[u8]) -> Option<u8>
     ensures { result ≡ chosen switches p.now }
 {
@@ -69,7 +69,7 @@ fn switch_of(p: &[u8]) -> Option<u8>
 }
 
 // "SCEN `auto`, `auto24pSync` or `general`, padded with `#`."
-#[tactic(auto, using(crate::proofs::Compared::compared), unfolding(crate::specs::Sets::chosen_from))]
+#[tactic(auto, using(laws::proofs::Library::same_pointwise), unfolding(crate::specs::Sets::chosen_from))]
 fn scene_of(p: &[u8]) -> Option<u8>
     ensures { result ≡ chosen scenes p.now }
 {
@@ -99,7 +99,7 @@ fn volume_order(p: &[u8]) -> Option<Order>
 }
 
 // "INPT is seven `0`, type [..], four `0`, port [..]."
-#[tactic(auto, using(crate::proofs::Compared::compared), unfolding(crate::specs::Sets::is_padded))]
+#[tactic(auto, using(laws::proofs::Library::same_pointwise), unfolding(crate::specs::Sets::is_padded))]
 fn is_padded(p: &[u8]) -> bool
     requires { length p.now ≡ 16 }
     ensures { result ≡ is_padded p.now }

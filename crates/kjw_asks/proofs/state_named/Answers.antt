@@ -1,27 +1,26 @@
-use mathlib.Core.Path.{refl, sym, ap, ◌∙◌}
-use borrow.Author.Rules.{rules}
-use native.Mathlib.Omega.{arith}
-use Rattle.laws.specs.Bytes.{same}
-use Rattle.kjw_asks.specs.Asks as asks
-use Rattle.kjw_sets.specs.declared.State.TheVariants.{Power}
-use Rattle.kjw_asks.proofs.Names.{named_yes, named_no, named_none}
+-- `state_named` takes the first of the states with these letters, as the definition does.
+use Rattle.std.proofs.Common.{rules, tests, ◌≡◌, refl, sym, ◌∙◌, ap, cond, Bool, List, [], ◌∷◌, ℕ, Option, nat_eq}
+use Rattle.std.specs.Cmp.Lexicographic.{pointwise}
+use Rattle.std.specs.List.{find}
+use Rattle.std.proofs.lemmas.Iterator.{YieldsList-from_slice}
+use Rattle.std.proofs.lemmas.Iterator.Search.{find_from_yields_List}
+use Rattle.laws.proofs.Library.{same_pointwise}
+use Rattle.kjw_sets.specs.Words.{state_letters}
+use Rattle.kjw_sets.specs.declared.State.{State}
+use Rattle.kjw_asks.specs.Asks.{states, state_named, named_in}
 use Rattle.kjw_asks.proofs.state_named.Goals as goal
 
-pub loop-i-init : goal.loop-i-init
-unfolding asks.state_named
-loop-i-init c = (search rules, refl)
+abbrev has : List ℕ → State → Bool
+has l s = pointwise nat_eq l (state_letters s)
 
-pub returns-then-same_bytes : goal.returns-then-same_bytes
-returns-then-same_bytes c =
-    let l = c.args.letters in
-    let e = ap (same l) (sym c.state_letters-name.ensures) ∙ sym c.same_bytes.ensures ∙ c.if-same_bytes.true in
-    sym (c.loop-i.invariant.1 ∙ named_yes asks.states l c.loop-i.i Power c.loop-i-test.true e)
-
-pub loop-i-preserved : goal.loop-i-preserved
-loop-i-preserved c =
-    let l = c.args.letters in
-    let e = ap (same l) (sym c.state_letters-name.ensures) ∙ sym c.same_bytes.ensures ∙ c.if-same_bytes.false in
-    (search rules, c.loop-i.invariant.1 ∙ named_no asks.states l c.loop-i.i Power c.loop-i-test.true e)
+found : (ss : List State) (l : List ℕ) → find (has l) ss ≡ named_in ss l
+unfolding named_in
+found [] l = refl
+found (s ∷ ss) l = rw (same_pointwise l (state_letters s), found ss l)
 
 pub returns : goal.returns
-returns c = sym (c.loop-i.invariant.1 ∙ named_none asks.states c.args.letters c.loop-i.i (omega arith))
+unfolding state_named
+returns c =
+    let l = c.args.letters in
+    let f = find_from_yields_List (has l) _ _ c.find.result c.find.ensures.ran (YieldsList-from_slice states cc) (λ x b q k. search (rules, tests)) in
+    c.copied.ensures ∙ f ∙ found states l
