@@ -1,5 +1,5 @@
 -- `state_named` takes the first of the states with these letters, as the definition does.
-use Rattle.std.proofs.Common.{rules, tests, ◌≡◌, refl, sym, ◌∙◌, ap, cond, Bool, List, [], ◌∷◌, ℕ, Option, nat_eq}
+use Rattle.std.proofs.Common.{rules, tests, ◌≡◌, refl, ◌∙◌, Bool, List, [], ◌∷◌, ℕ, nat_eq}
 use Rattle.std.specs.Cmp.Lexicographic.{pointwise}
 use Rattle.std.specs.List.{find}
 use Rattle.std.proofs.lemmas.Iterator.{YieldsList-from_slice}

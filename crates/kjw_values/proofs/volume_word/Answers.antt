@@ -9,5 +9,4 @@ pub returns : goal.returns
 returns c =
     let v = c.args.v in
     let h : v < 1000 = omega arith in
-    let k = c.from.ensures in
     c.four_digits.ensures ∙ sym (three_digits 13 v h ∙ rw (c.from.ensures, three_digits 1 v h))
