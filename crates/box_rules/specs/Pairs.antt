@@ -1,9 +1,8 @@
 -- For the contracts of the code alone, no sentence of the document: what a panel is called by, gathered at its place, and whether the box keeps the rules.
-use Rattle.std.specs.Prelude.{ℕ, ◌-◌, cond, List, ◌++◌, map, take, replicate}
+use Rattle.std.specs.Prelude.{ℕ, ◌-◌, cond, Option, Some, None, List, ◌++◌, map, take, replicate}
 use Rattle.panels.specs.Records.{past_end}
 use Rattle.panels.specs.Valid.{valid}
 use Rattle.box_rules.specs.declared.Ids.{Ids}
-use Rattle.box_rules.specs.declared.Judged.{Judged}
 use Rattle.panels.specs.declared.Panel.{Panel}
 use Rattle.panels.specs.declared.DisplayBox.{DisplayBox}
 
@@ -33,5 +32,6 @@ gathered ps n = map ids_of (take n ps) ++ replicate (8 - n) no_ids
 unfoldable pub ids_in : DisplayBox → List Ids
 ids_in b = cond (valid b) (gathered b.panels b.count) (replicate 8 no_ids)
 
-abbrev pub judged : DisplayBox → Judged
-judged b = record { good = valid b; ids = ids_in b }
+-- they are given of a box that keeps the rules alone
+abbrev pub judged : DisplayBox → Option (List Ids)
+judged b = cond (valid b) (Some (gathered b.panels b.count)) None

@@ -6,6 +6,7 @@ use Rattle.panels.specs.Records.{family_w}
 use Rattle.panels.specs.Valid.{ok_panel}
 use Rattle.box_rules.specs.Pairs.{no_ids, gathered}
 use Rattle.box_rules.specs.declared.Ids.{Ids}
+use Rattle.box_rules.specs.declared.Seen.{Seen}
 use Rattle.panels.specs.declared.Panel.{Panel}
 
 -- the IDs of the W panel at place k as one number, and the place's own number where there is none
@@ -16,9 +17,12 @@ pair_at d k = cond (eqb d.family family_w) (number (d.group.0 ∷ d.unit.0 ∷ [
 abbrev pub Rings : List Ids → List ℕ → Type 0
 Rings ids ring = (k : ℕ) → k < 8 → (get_or ring k 0 ≡ pair_at (get_or ids k no_ids) k) × (get_or ring (k + 8) 0 ≡ pair_at (get_or ids k no_ids) k)
 
--- what is seen of the first n panels: whether each is good, and of good ones what they are called by and their numbers
-abbrev pub Sees : List Panel → ℕ → Bool → List Ids → List ℕ → Type 0
-Sees ps n good ids ring = (good ≡ every ok_panel (take n ps)) × (good ≡ true → (ids ≡ gathered ps n) × ((length ids ≡ 8) × Rings ids ring))
+-- what is seen of the first n panels where each is good: what they are called by, and their numbers
+pub record Sees (ps : List Panel) (n : ℕ) (s : Seen) : Type 0 where
+  pub good : every ok_panel (take n ps) ≡ true
+  pub ids_are : s.ids ≡ gathered ps n
+  pub eight : length s.ids ≡ 8
+  pub rings : Rings s.ids s.ring
 
 -- none of the eight is like the one d places on
 abbrev pub apart_by : List ℕ → ℕ → Bool

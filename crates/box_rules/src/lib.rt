@@ -1,9 +1,10 @@
 // A box judged by the rules: how many panels, each by itself, and no two W panels that share both IDs (document 01, "The box and its messages").
 #![tactic(auto)]
 
-ghost use Rattle.std.specs.Prelude.{◌≡◌, ◌<◌, ◌≤◌, false, replicate};
-ghost use Rattle.panels.specs.Valid.{valid};
-ghost use Rattle.box_rules.specs.Pairs.{ids_of, no_ids, judged};
+ghost use Rattle.std.specs.Prelude.{◌≡◌, ◌<◌, ◌≤◌, false, take, MatchOption};
+ghost use Rattle.laws.specs.Lists.{every};
+ghost use Rattle.panels.specs.Valid.{ok_panel, valid};
+ghost use Rattle.box_rules.specs.Pairs.{ids_of, judged};
 ghost use Rattle.box_rules.specs.Ring.{pair_at, Sees, apart_by, all_apart};
 
 use octets::number2;
@@ -12,25 +13,23 @@ use panels::{DisplayBox, FAMILY_W, Panel};
 use terms::{GroupId, UnitId};
 
 // What a panel is called by: three bytes, where a whole panel is 58. Family 0 is no panel.
-#[derive(Clone, Copy)]
+#[derive(Clone, Copy, PartialEq, Eq)]
 pub struct Ids {
     pub family: u8,
     pub group: GroupId,
     pub unit: UnitId,
 }
 
-// Whether a box keeps the rules, and what its panels are called by, each at its place; none of a box that breaks them.
-#[derive(Clone, Copy)]
-pub struct Judged {
-    pub good: bool,
-    pub ids: [Ids; 8],
-}
+// What no panels are called by: those of a box that breaks the rules.
+pub const NO_IDS: [Ids; 8] = [Ids {
+    family: 0,
+    group: GroupId(0),
+    unit: UnitId(0),
+}; 8];
 
-// What was seen of the panels: whether each is good by itself, what they are called by, and their pairs as numbers, eight places and
-// the same eight again.
+// What was seen of good panels: what they are called by, and their pairs as numbers, eight places and the same eight again.
 #[derive(Clone, Copy)]
 struct Seen {
-    good: bool,
     ids: [Ids; 8],
     ring: [u16; 16],
 }
@@ -39,12 +38,10 @@ struct Seen {
 pub fn called_by(p: Panel) -> Ids
     ensures { result ≡ ids_of p }
 {
-    let group = p.group;
-    let unit = p.unit;
     Ids {
         family: p.family,
-        group,
-        unit,
+        group: p.group,
+        unit: p.unit,
     }
 }
 
@@ -57,49 +54,35 @@ fn pair_at(d: Ids, k: usize) -> u16
     if d.family != FAMILY_W {
         return k as u16;
     }
-    let g = d.group;
-    let u = d.unit;
-    number2(g.0, u.0)
+    number2(d.group.0, d.unit.0)
+}
+
+// Each panel is good by itself.
+fn all_good(ps: &[Panel]) -> bool
+    ensures { result ≡ every ok_panel ps.now }
+{
+    ps.iter().all(|p| panel_ok(*p))
 }
 
 // The first n panels, one by one. The places behind them have no panel. What they are called by is gathered before each is judged:
 // the pairs are laid one by one and compared eight at once, and the machine would wait for them if the comparison followed at once.
-fn look_through(ps: [Panel; 8], n: usize) -> Seen
+fn look_through(ps: [Panel; 8], n: usize) -> Option<Seen>
     requires { n ≤ 8 }
-    ensures { Sees ps n result.good result.ids result.ring }
+    ensures { MatchOption result (every ok_panel (take n ps) ≡ false) (Sees ps n) }
 {
-    let none = Ids {
-        family: 0,
-        group: GroupId(0),
-        unit: UnitId(0),
-    };
-    let mut ids = [none; 8];
+    let mut ids = NO_IDS;
     let mut ring = [0, 1, 2, 3, 4, 5, 6, 7, 0, 1, 2, 3, 4, 5, 6, 7];
-    let mut i = 0;
-    while i < n {
+    for i in 0..n {
         let d = called_by(ps[i]);
         ids[i] = d;
         let pair = pair_at(d, i);
         ring[i] = pair;
         ring[i + 8] = pair;
-        i += 1;
     }
-    let mut k = 0;
-    while k < n {
-        if !panel_ok(ps[k]) {
-            return Seen {
-                good: false,
-                ids,
-                ring,
-            };
-        }
-        k += 1;
+    if !all_good(&ps[..n]) {
+        return None;
     }
-    Seen {
-        good: true,
-        ids,
-        ring,
-    }
+    Some(Seen { ids, ring })
 }
 
 // No panel has the pair of the one d places on. There is no way out of the loop, so that the compiler compares all eight at once.
@@ -108,12 +91,8 @@ fn apart_by(ring: [u16; 16], d: usize) -> bool
     ensures { result ≡ apart_by ring d }
 {
     let mut ok = true;
-    let mut i = 0;
-    while i < 8 {
-        if ring[i] == ring[i + d] {
-            ok = false;
-        }
-        i += 1;
+    for i in 0..8 {
+        ok &= ring[i] != ring[i + d];
     }
     ok
 }
@@ -122,61 +101,26 @@ fn apart_by(ring: [u16; 16], d: usize) -> bool
 fn all_apart(ring: [u16; 16]) -> bool
     ensures { result ≡ all_apart ring }
 {
-    if !apart_by(ring, 1) {
-        return false;
-    }
-    if !apart_by(ring, 2) {
-        return false;
-    }
-    if !apart_by(ring, 3) {
-        return false;
-    }
-    apart_by(ring, 4)
+    apart_by(ring, 1) && apart_by(ring, 2) && apart_by(ring, 3) && apart_by(ring, 4)
 }
 
-// "A box handed in that breaks these rules [..] is answered as a box of no panels."
-fn broken() -> Judged
-    ensures { result ≡ record { good = false; ids = replicate 8 no_ids } }
-{
-    let none = Ids {
-        family: 0,
-        group: GroupId(0),
-        unit: UnitId(0),
-    };
-    Judged {
-        good: false,
-        ids: [none; 8],
-    }
-}
-
-// The rules of document 01's first section.
-pub fn judge(b: DisplayBox) -> Judged
+// What the panels of a box that keeps the rules are called by, each at its place: the rules of document 01's first section.
+pub fn judge(b: DisplayBox) -> Option<[Ids; 8]>
     ensures { result ≡ judged b }
 {
-    let n = b.count;
-    if n < 1 {
-        return broken();
+    if !(1..=8).contains(&b.count) {
+        return None;
     }
-    if 8 < n {
-        return broken();
+    let seen = look_through(b.panels, b.count)?;
+    if !all_apart(seen.ring) {
+        return None;
     }
-    let ps = b.panels;
-    let seen = look_through(ps, n);
-    if !seen.good {
-        return broken();
-    }
-    let ring = seen.ring;
-    if !all_apart(ring) {
-        return broken();
-    }
-    let ids = seen.ids;
-    Judged { good: true, ids }
+    Some(seen.ids)
 }
 
 // Whether a box keeps them.
 pub fn is_valid(b: DisplayBox) -> bool
     ensures { result ≡ valid b }
 {
-    let j = judge(b);
-    j.good
+    judge(b).is_some()
 }

@@ -60,7 +60,7 @@ fn balance_ok(b: Balance) -> bool
 fn shifts_ok(z: [i8; 2]) -> bool
     ensures { result ≡ every ok_shift z }
 {
-    shift_ok(z[0]) && shift_ok(z[1])
+    z.iter().all(|x| shift_ok(*x))
 }
 
 // Every setting of family W is in its range.

@@ -1,0 +1,12 @@
+-- `all_good` asks the panels in turn, as `every` does.
+use Rattle.std.proofs.Common.{rules, ◌∙◌}
+use Rattle.std.proofs.lemmas.Iterator.{YieldsList-from_slice}
+use Rattle.std.proofs.lemmas.Iterator.Search.{all_from_yields_List}
+use Rattle.laws.proofs.Library.{every_all}
+use Rattle.panels.specs.Valid.{ok_panel}
+use Rattle.box_rules.proofs.all_good.Goals as goal
+
+pub returns : goal.returns
+returns c =
+    all_from_yields_List ok_panel _ _ _ c.all.ensures.ran (YieldsList-from_slice c.args.ps.now cc) (λ x b q k. search rules)
+    ∙ every_all ok_panel c.args.ps.now
