@@ -1,4 +1,3 @@
 pub mod Determined
 pub mod Boxes
 pub mod Examples
-pub mod Long

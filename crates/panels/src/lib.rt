@@ -83,7 +83,8 @@ pub struct DisplayBox {
     pub panels: [Panel; 8],
 }
 
-// A place that holds no panel: all zeros.
+// A place that holds no panel: all zeros. They are written out, for of an array a derived default says no more than that each of its
+// elements is one.
 pub fn zero_panel() -> Panel
     ensures { result ≡ zero_panel }
 {
