@@ -13,7 +13,7 @@ use Rattle.terms.specs.declared.Answer.{Answer}
 use Rattle.terms.specs.declared.Answer.TheVariants.{AreaTooSmall, WrongLength, NotForUs}
 use Rattle.sdap.specs.declared.Advert.{Advert}
 use Rattle.sdap.specs.Layout.{fields_of}
-use Rattle.sdap.specs.Rules.{read_answer, write_verdict, write_answer, is_front, is_sized, Sized, verdict_of}
+use Rattle.sdap.specs.Rules.{read_answer, write_answer, is_front, is_sized, Sized, verdict}
 
 -- an answer whose number is not 0 is not an answer whose number is 0
 other : (a b : Answer) → (number_of a ≡ 0 → ⊥) → number_of b ≡ 0 → a ≡ b → ⊥
@@ -22,7 +22,7 @@ other a b n z e = n (ap number_of e ∙ z)
 pub record Readable (l : List ℕ) : Type 0 where
   pub long : length l ≡ 122
   pub front : is_front l ≡ true
-  pub fair : verdict_of (fields_of l) ≡ read_answer l
+  pub fair : verdict (fields_of l) ≡ read_answer l
 
 pub readable : (l : List ℕ) → number_of (read_answer l) ≡ 0 → Readable l
 unfolding read_answer
@@ -35,31 +35,35 @@ readable l z =
       fair = b.1;
     }
 
-sized : (p l r n : List ℕ) → is_sized p l r n ≡ true → Sized p l r n
+sized : (a : Advert) → is_sized a ≡ true → Sized a
 unfolding is_sized
-sized p l r n e =
-    let a = and_first (eqb (length p) 12 && eqb (length l) 24 && eqb (length r) 24) (eqb (length n) 24) e in
-    let b = and_first (eqb (length p) 12 && eqb (length l) 24) (eqb (length r) 24) a in
+sized a e =
+    let p = eqb (length a.product) 12 in
+    let l = eqb (length a.location) 24 in
+    let r = eqb (length a.region) 24 in
+    let n = eqb (length a.name) 24 in
+    let plr = and_first (p && l && r) n e in
+    let pl = and_first (p && l) r plr in
     record {
-      product_ok = eqb-true (length p) 12 (and_first (eqb (length p) 12) (eqb (length l) 24) b);
-      location_ok = eqb-true (length l) 24 (and_second (eqb (length p) 12) (eqb (length l) 24) b);
-      region_ok = eqb-true (length r) 24 (and_second (eqb (length p) 12 && eqb (length l) 24) (eqb (length r) 24) a);
-      name_ok = eqb-true (length n) 24 (and_second (eqb (length p) 12 && eqb (length l) 24 && eqb (length r) 24) (eqb (length n) 24) e);
+      product_ok = eqb-true (length a.product) 12 (and_first p l pl);
+      location_ok = eqb-true (length a.location) 24 (and_second p l pl);
+      region_ok = eqb-true (length a.region) 24 (and_second (p && l) r plr);
+      name_ok = eqb-true (length a.name) 24 (and_second (p && l && r) n e);
     }
 
 pub record Writable (room : ℕ) (a : Advert) : Type 0 where
   pub room_ok : 122 ≤ room
-  pub sizes : Sized a.product a.location a.region a.name
-  pub fair : verdict_of a ≡ write_answer room a
+  pub sizes : Sized a
+  pub fair : verdict a ≡ write_answer room a
 
 pub writable : (room : ℕ) (a : Advert) → number_of (write_answer room a) ≡ 0 → Writable room a
-unfolding write_verdict
+unfolding write_answer
 writable room a z =
     let answer = write_answer room a in
     let b = passed (ltb room 122) AreaTooSmall _ answer (other AreaTooSmall answer (λ e. omega arith) z) refl in
-    let s = passed (not (is_sized a.product a.location a.region a.name)) WrongLength _ answer (other WrongLength answer (λ e. omega arith) z) b.1 in
+    let s = passed (not (is_sized a)) WrongLength _ answer (other WrongLength answer (λ e. omega arith) z) b.1 in
     record {
       room_ok = ltb-false room 122 b.0;
-      sizes = sized a.product a.location a.region a.name (not-false _ s.0);
+      sizes = sized a (not-false _ s.0);
       fair = s.1;
     }

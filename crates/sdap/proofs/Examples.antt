@@ -8,7 +8,7 @@ use Rattle.laws.specs.Numbers.{number, in_bytes}
 use Rattle.terms.specs.declared.Answer.TheVariants.{Done, AreaTooSmall, WrongLength, NotForUs, EnvelopeWrong}
 use Rattle.sdap.specs.declared.Advert.{Advert}
 use Rattle.sdap.specs.Layout.{bytes_of, fields_of, no_fields}
-use Rattle.sdap.specs.Rules.{is_text, are_texts, is_category, is_filled, is_front, is_sized, verdict, read_answer, read_of, write_verdict, write_answer, area_after, before_zero}
+use Rattle.sdap.specs.Rules.{is_text, are_texts, is_category, is_filled, is_front, is_sized, verdict, read_answer, read_of, write_answer, area_after, before_zero}
 
 -- document 000, "Example"
 example : List ℕ
@@ -72,9 +72,9 @@ text_refused = refl
 
 -- a small area wins over everything, and a refused writer leaves its area
 small_refused : write_answer 121 advert ≡ AreaTooSmall
-unfolding advert write_verdict
+unfolding advert write_answer
 small_refused = refl
 
 written_in_124 : area_after (write_answer 124 advert) advert (replicate 124 0xa5) ≡ example ++ (0xa5 ∷ 0xa5 ∷ [])
-unfolding advert example write_verdict is_sized verdict is_category is_filled are_texts is_text bytes_of in_bytes
+unfolding advert example write_answer is_sized verdict is_category is_filled are_texts is_text bytes_of in_bytes
 written_in_124 = refl

@@ -17,7 +17,7 @@ use Rattle.terms.specs.Answers.{number_of}
 use Rattle.terms.specs.declared.Answer.{Answer}
 use Rattle.sdap.specs.declared.Advert.{Advert}
 use Rattle.sdap.specs.Layout.{head_of, addresses_of, tail_of, bytes_of, fields_of}
-use Rattle.sdap.specs.Rules.{is_front, is_sized, Sized, write_verdict, verdict_of, read_answer, read_of, write_answer, Written}
+use Rattle.sdap.specs.Rules.{is_front, is_sized, Sized, verdict, read_answer, read_of, write_answer, Written}
 use Rattle.sdap.proofs.Accepted.{Readable, readable, writable}
 use Rattle.sdap.proofs.Lengths.{head_length, addresses_length, tail_length}
 
@@ -82,7 +82,7 @@ unfolding bytes_of
 opened a =
     regroup (68 ∷ 65 ∷ 4 ∷ a.category ∷ 83 ∷ 79 ∷ 78 ∷ 89 ∷ []) a.product (in_bytes 4 a.serial) (in_bytes 2 a.power) a.location (in_bytes 4 a.connected) (in_bytes 4 (get_or a.accepted 0 0)) (in_bytes 4 (get_or a.accepted 1 0)) (in_bytes 4 (get_or a.accepted 2 0)) (in_bytes 4 (get_or a.accepted 3 0)) (in_bytes 2 a.error) a.region a.name (a.group.0 ∷ a.unit.0 ∷ [])
 
-module _ (a : Advert) (f : Fitting a) (s : Sized a.product a.location a.region a.name) where
+module _ (a : Advert) (f : Fitting a) (s : Sized a) where
   fields_back : fields_of (bytes_of a) ≡ a
   fields_back =
       let l = bytes_of a in
@@ -122,17 +122,17 @@ module _ (a : Advert) (f : Fitting a) (s : Sized a.product a.location a.region a
   bytes_long : length (bytes_of a) ≡ 122
   unfolding bytes_of
   bytes_long =
-      let h = head_length a.category a.product a.serial a.power a.location s.product_ok s.location_ok in
-      let i = addresses_length a.connected a.accepted in
-      let t = tail_length a.error a.region a.name a.group a.unit s.region_ok s.name_ok in
-      length-append (head_of a.category a.product a.serial a.power a.location ++ addresses_of a.connected a.accepted) (tail_of a.error a.region a.name a.group a.unit)
-      ∙ omega (arith, h, i, t, length-append (head_of a.category a.product a.serial a.power a.location) (addresses_of a.connected a.accepted))
+      let h = head_length a s.product_ok s.location_ok in
+      let i = addresses_length a in
+      let t = tail_length a s.region_ok s.name_ok in
+      length-append (head_of a ++ addresses_of a) (tail_of a)
+      ∙ omega (arith, h, i, t, length-append (head_of a) (addresses_of a))
 
   front_back : is_front (bytes_of a) ≡ true
   unfolding is_front
   front_back = rw (opened a)
 
-  answer_back : read_answer (bytes_of a) ≡ verdict_of a
+  answer_back : read_answer (bytes_of a) ≡ verdict a
   unfolding read_answer
   answer_back = rw (eq-eqb _ _ bytes_long, front_back, fields_back)
 
@@ -187,7 +187,7 @@ module _ (l : List ℕ) (b : Bytes l) (ok : Readable l) where
       let t3 = part_join 70 50 2 120 l t2 ids refl in
       part_join 0 70 52 70 l (part_join 0 50 20 50 l h4 i4 refl) t3 refl ∙ take_all 122 l (omega (arith, ok.long))
 
-  sizes_back : is_sized (fields_of l).product (fields_of l).location (fields_of l).region (fields_of l).name ≡ true
+  sizes_back : is_sized (fields_of l) ≡ true
   unfolding is_sized fields_of
   sizes_back =
       rw (
@@ -200,7 +200,7 @@ module _ (l : List ℕ) (b : Bytes l) (ok : Readable l) where
 -- what the reader accepts is written back as the same bytes: in any area that has room, with the old rest behind them
 pub read_writes_back : (l area area' : List ℕ) (r : Answer) → Bytes l → number_of (read_answer l) ≡ 0 → 122 ≤ length area
     → Written (read_of l).fields area r area' → (r ≡ read_answer l) × (area' ≡ sent l area)
-unfolding read_of write_verdict
+unfolding read_of write_answer
 read_writes_back l area area' r b z room w =
     let ok = readable l z in
     let fields : (read_of l).fields ≡ fields_of l = rw (eq-eqb (number_of (read_answer l)) 0 z) in

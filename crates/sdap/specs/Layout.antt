@@ -5,6 +5,7 @@ use Rattle.laws.specs.Numbers.{number, in_bytes}
 use Rattle.terms.specs.declared.GroupId.{GroupId}
 use Rattle.terms.specs.declared.UnitId.{UnitId}
 use Rattle.sdap.specs.declared.Advert.{Advert}
+use Rattle.sdap.specs.declared.Fields.{Fields}
 
 -- an advert of these fields
 abbrev pub advert_of : ℕ → List ℕ → ℕ → ℕ → List ℕ → ℕ → List ℕ → ℕ → List ℕ → List ℕ → GroupId → UnitId → Advert
@@ -23,30 +24,32 @@ advert_of category product serial power location connected accepted error region
   unit = unit;
 }
 
+-- the advert that fields lent by reference say
+abbrev pub lent_of : Fields → Advert
+lent_of f =
+    advert_of f.category f.product.now f.serial f.power f.location.now f.connected f.accepted f.error f.region.now f.name.now f.group f.unit
+
 -- "DA" 0; version 04h 2; category 3; "SONY" 4; product (12) 8; serial (4) 20; power (2) 24; location (24) 26;
-abbrev pub head_of : ℕ → List ℕ → ℕ → ℕ → List ℕ → List ℕ
-head_of category product serial power location =
-    ascii "DA" ++ (4 ∷ category ∷ []) ++ ascii "SONY" ++ product ++ in_bytes 4 serial ++ in_bytes 2 power ++ location
+abbrev pub head_of : Advert → List ℕ
+head_of a =
+    ascii "DA" ++ (4 ∷ a.category ∷ []) ++ ascii "SONY" ++ a.product ++ in_bytes 4 a.serial ++ in_bytes 2 a.power ++ a.location
 
 -- connected IP 50; four accepted IPs 54;
-abbrev pub addresses_of : ℕ → List ℕ → List ℕ
-addresses_of connected accepted =
-    in_bytes 4 connected
-    ++ in_bytes 4 (get_or accepted 0 0)
-    ++ in_bytes 4 (get_or accepted 1 0)
-    ++ in_bytes 4 (get_or accepted 2 0)
-    ++ in_bytes 4 (get_or accepted 3 0)
+abbrev pub addresses_of : Advert → List ℕ
+addresses_of a =
+    in_bytes 4 a.connected
+    ++ in_bytes 4 (get_or a.accepted 0 0)
+    ++ in_bytes 4 (get_or a.accepted 1 0)
+    ++ in_bytes 4 (get_or a.accepted 2 0)
+    ++ in_bytes 4 (get_or a.accepted 3 0)
 
 -- error (2) 70; region (24) 72; name (24) 96; group 120; unit 121.
-abbrev pub tail_of : ℕ → List ℕ → List ℕ → GroupId → UnitId → List ℕ
-tail_of error region name group unit = in_bytes 2 error ++ region ++ name ++ (group.0 ∷ unit.0 ∷ [])
+abbrev pub tail_of : Advert → List ℕ
+tail_of a = in_bytes 2 a.error ++ a.region ++ a.name ++ (a.group.0 ∷ a.unit.0 ∷ [])
 
 -- the 122 bytes
 unfoldable pub bytes_of : Advert → List ℕ
-bytes_of a =
-    head_of a.category a.product a.serial a.power a.location
-    ++ addresses_of a.connected a.accepted
-    ++ tail_of a.error a.region a.name a.group a.unit
+bytes_of a = head_of a ++ addresses_of a ++ tail_of a
 
 -- each field from its place, "Numbers high byte first"
 unfoldable pub fields_of : List ℕ → Advert

@@ -14,26 +14,24 @@ unfoldable pub is_text : List ℕ → Bool
 is_text [] = true
 is_text (x ∷ xs) = cond (eqb x 0) (every (eqb 0) xs) (is_text xs)
 
-unfoldable pub are_texts : List ℕ → List ℕ → List ℕ → List ℕ → Bool
-are_texts product location region name = is_text product && is_text location && is_text region && is_text name
+-- the four texts are texts
+unfoldable pub are_texts : Advert → Bool
+are_texts a = is_text a.product && is_text a.location && is_text a.region && is_text a.name
 
 -- "category 0Bh or 0Ch"
 unfoldable pub is_category : ℕ → Bool
 is_category c = listed (0x0b ∷ 0x0c ∷ []) c
 
 -- "Power or error not 0 or 1, or a nonzero byte after a 00h in a text: 5."
-unfoldable pub is_filled : ℕ → ℕ → List ℕ → List ℕ → List ℕ → List ℕ → Bool
-is_filled power error product location region name = leb power 1 && leb error 1 && are_texts product location region name
+unfoldable pub is_filled : Advert → Bool
+is_filled a = leb a.power 1 && leb a.error 1 && are_texts a
 
 -- what reader and writer judge "by the same rules": 4 for the category and 5 for the rest
-unfoldable pub verdict : ℕ → ℕ → ℕ → List ℕ → List ℕ → List ℕ → List ℕ → Answer
-verdict category power error product location region name =
-    cond (not (is_category category)) NotForUs
-    (cond (not (is_filled power error product location region name)) EnvelopeWrong
+unfoldable pub verdict : Advert → Answer
+verdict a =
+    cond (not (is_category a.category)) NotForUs
+    (cond (not (is_filled a)) EnvelopeWrong
     Done)
-
-abbrev pub verdict_of : Advert → Answer
-verdict_of a = verdict a.category a.power a.error a.product a.location a.region a.name
 
 -- the fixed bytes: "DA" 0; version 04h 2; "SONY" 4
 unfoldable pub is_front : List ℕ → Bool
@@ -44,7 +42,7 @@ unfoldable pub read_answer : List ℕ → Answer
 read_answer l =
     cond (not (eqb (length l) 122)) WrongLength
     (cond (not (is_front l)) NotForUs
-    (verdict_of (fields_of l)))
+    (verdict (fields_of l)))
 
 -- what is given of the fields with an answer: nothing but zeros when refused
 abbrev pub given : Answer → Advert → Advert
@@ -55,26 +53,22 @@ unfoldable pub read_of : List ℕ → Read
 read_of l = record { answer = read_answer l; fields = given (read_answer l) (fields_of l) }
 
 -- the text areas are of their 12 or 24 bytes
-unfoldable pub is_sized : List ℕ → List ℕ → List ℕ → List ℕ → Bool
-is_sized product location region name =
-    eqb (length product) 12 && eqb (length location) 24 && eqb (length region) 24 && eqb (length name) 24
+unfoldable pub is_sized : Advert → Bool
+is_sized a = eqb (length a.product) 12 && eqb (length a.location) 24 && eqb (length a.region) 24 && eqb (length a.name) 24
 
 -- the same, as facts that the writer's helpers rely on
-pub record Sized (product location region name : List ℕ) : Type 0 where
-  pub product_ok : length product ≡ 12
-  pub location_ok : length location ≡ 24
-  pub region_ok : length region ≡ 24
-  pub name_ok : length name ≡ 24
+pub record Sized (a : Advert) : Type 0 where
+  pub product_ok : length a.product ≡ 12
+  pub location_ok : length a.location ≡ 24
+  pub region_ok : length a.region ≡ 24
+  pub name_ok : length a.name ≡ 24
 
 -- 1 for an area under 122 bytes, "3 for a text area not of its 12 or 24 bytes", then the shared rules
-unfoldable pub write_verdict : ℕ → ℕ → ℕ → ℕ → List ℕ → List ℕ → List ℕ → List ℕ → Answer
-write_verdict room category power error product location region name =
+unfoldable pub write_answer : ℕ → Advert → Answer
+write_answer room a =
     cond (ltb room 122) AreaTooSmall
-    (cond (not (is_sized product location region name)) WrongLength
-    (verdict category power error product location region name))
-
-abbrev pub write_answer : ℕ → Advert → Answer
-write_answer room a = write_verdict room a.category a.power a.error a.product a.location a.region a.name
+    (cond (not (is_sized a)) WrongLength
+    (verdict a))
 
 -- "On 0 it fills the first 122 bytes and those after keep what they held", else "area untouched"
 abbrev pub area_after : Answer → Advert → List ℕ → List ℕ

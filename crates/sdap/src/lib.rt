@@ -1,8 +1,9 @@
 // The SDAP advert of 122 bytes: its fields, the rules that reader and writer share, and the writer's answer (document 01, "SDAP advert, 122 bytes").
-#![tactic(auto)]
+#![tactic(auto, unfolding(crate::specs::Rules::are_texts, crate::specs::Rules::is_category, crate::specs::Rules::is_filled, crate::specs::Rules::is_sized, crate::specs::Rules::verdict, crate::specs::Rules::write_answer))]
 
-ghost use Rattle.std.specs.Prelude.{◌≡◌, not, ◌&&◌, eqb};
-ghost use Rattle.sdap.specs.Rules.{is_text, are_texts, is_category, is_filled, verdict, text_length, is_sized, write_verdict};
+ghost use Rattle.std.specs.Prelude.{◌≡◌};
+ghost use Rattle.sdap.specs.Layout.{lent_of};
+ghost use Rattle.sdap.specs.Rules.{is_text, are_texts, is_category, is_filled, verdict, text_length, is_sized, write_answer};
 
 use terms::{Answer, GroupId, UnitId};
 
@@ -30,149 +31,98 @@ pub struct Read {
     pub fields: Advert,
 }
 
-// A nonzero byte directly behind a 00h.
-fn goes_on(last: u8, next: u8) -> bool
-    ensures { result ≡ (eqb last 0 && not (eqb next 0)) }
-{
-    if last != 0 {
-        return false;
-    }
-    next != 0
+// The same fields with the texts lent, as a caller hands them to the writer and as they lie in the bytes that the reader is given.
+#[derive(Clone, Copy)]
+pub struct Fields<'a> {
+    pub category: u8,
+    pub product: &'a [u8],
+    pub serial: u32,
+    pub power: u16,
+    pub location: &'a [u8],
+    pub connected: u32,
+    pub accepted: [u32; 4],
+    pub error: u16,
+    pub region: &'a [u8],
+    pub name: &'a [u8],
+    pub group: GroupId,
+    pub unit: UnitId,
 }
 
 // "A nonzero byte after a 00h in a text": whether there is none. If there is one, then one stands directly behind a 00h. There is no way
-// out of the loop, so that the compiler need not wait for one byte to look at the next.
+// out of the fold, so that the compiler need not wait for one byte to look at the next.
 fn is_text(t: &[u8]) -> bool
     ensures { result ≡ is_text t.now }
 {
-    let mut ok = true;
-    let mut i = 1;
-    while i < t.len() {
-        if goes_on(t[i - 1], t[i]) {
-            ok = false;
-        }
-        i += 1;
-    }
-    ok
+    t.iter()
+        .zip(t.iter().skip(1))
+        .fold(true, |ok, (last, next)| ok & (*last != 0 || *next == 0))
 }
 
 // A monitor or a controller.
 fn is_category(c: u8) -> bool
     ensures { result ≡ is_category c }
 {
-    if c == 11 {
-        return true;
-    }
-    c == 12
-}
-
-// The four texts are texts.
-fn are_texts(product: &[u8], location: &[u8], region: &[u8], name: &[u8]) -> bool
-    ensures { result ≡ are_texts product.now location.now region.now name.now }
-{
-    if !is_text(product) {
-        return false;
-    }
-    if !is_text(location) {
-        return false;
-    }
-    if !is_text(region) {
-        return false;
-    }
-    is_text(name)
-}
-
-// Power and error are 0 or 1, and the four texts are texts.
-#[tactic(auto, unfolding(crate::specs::Rules::is_filled))]
-fn is_filled(
-    power: u16,
-    error: u16,
-    product: &[u8],
-    location: &[u8],
-    region: &[u8],
-    name: &[u8],
-) -> bool
-    ensures { result ≡ is_filled power error product.now location.now region.now name.now }
-{
-    if 1 < power {
-        return false;
-    }
-    if 1 < error {
-        return false;
-    }
-    are_texts(product, location, region, name)
-}
-
-// The rules that reader and writer share: 4 for the category, 5 for the rest.
-pub fn verdict_of(
-    category: u8,
-    power: u16,
-    error: u16,
-    product: &[u8],
-    location: &[u8],
-    region: &[u8],
-    name: &[u8],
-) -> Answer
-    ensures { result ≡ verdict category power error product.now location.now region.now name.now }
-{
-    if !is_category(category) {
-        return Answer::NotForUs;
-    }
-    if !is_filled(power, error, product, location, region, name) {
-        return Answer::EnvelopeWrong;
-    }
-    Answer::Done
+    matches!(c, 11 | 12)
 }
 
 // How many bytes of a text stand before its first 00h.
 pub fn text_length(t: &[u8]) -> usize
     ensures { result ≡ text_length t.now }
 {
-    let mut i = 0;
-    while i < t.len() {
-        if t[i] == 0 {
-            return i;
+    t.iter().position(|b| *b == 0).unwrap_or(t.len())
+}
+
+impl<'a> Fields<'a> {
+    // The four texts are texts.
+    fn are_texts(&self) -> bool
+        ensures { result ≡ are_texts (lent_of self.now) }
+    {
+        is_text(self.product)
+            && is_text(self.location)
+            && is_text(self.region)
+            && is_text(self.name)
+    }
+
+    // Power and error are 0 or 1, and the four texts are texts.
+    fn is_filled(&self) -> bool
+        ensures { result ≡ is_filled (lent_of self.now) }
+    {
+        self.power <= 1 && self.error <= 1 && self.are_texts()
+    }
+
+    // The text areas have their 12 or 24 bytes.
+    fn is_sized(&self) -> bool
+        ensures { result ≡ is_sized (lent_of self.now) }
+    {
+        self.product.len() == 12
+            && self.location.len() == 24
+            && self.region.len() == 24
+            && self.name.len() == 24
+    }
+
+    // The rules that reader and writer share: 4 for the category, 5 for the rest.
+    pub fn verdict(&self) -> Answer
+        ensures { result ≡ verdict (lent_of self.now) }
+    {
+        if !is_category(self.category) {
+            return Answer::NotForUs;
         }
-        i += 1;
+        if !self.is_filled() {
+            return Answer::EnvelopeWrong;
+        }
+        Answer::Done
     }
-    i
-}
 
-// The text areas have their 12 or 24 bytes.
-fn is_sized(product: &[u8], location: &[u8], region: &[u8], name: &[u8]) -> bool
-    ensures { result ≡ is_sized product.now location.now region.now name.now }
-{
-    if product.len() != 12 {
-        return false;
+    // The advert writer's answer, for an area of so many bytes.
+    pub fn write_answer(&self, room: usize) -> Answer
+        ensures { result ≡ write_answer room (lent_of self.now) }
+    {
+        if room < 122 {
+            return Answer::AreaTooSmall;
+        }
+        if !self.is_sized() {
+            return Answer::WrongLength;
+        }
+        self.verdict()
     }
-    if location.len() != 24 {
-        return false;
-    }
-    if region.len() != 24 {
-        return false;
-    }
-    name.len() == 24
-}
-
-// The advert writer's answer, for an area of so many bytes.
-#[tactic(auto, unfolding(crate::specs::Rules::write_verdict))]
-pub fn write_answer(
-    room: usize,
-    category: u8,
-    power: u16,
-    error: u16,
-    product: &[u8],
-    location: &[u8],
-    region: &[u8],
-    name: &[u8],
-) -> Answer
-    ensures { result ≡ write_verdict room category power error product.now location.now region.now name.now }
-{
-    if room < 122 {
-        return Answer::AreaTooSmall;
-    }
-    if !is_sized(product, location, region, name) {
-        return Answer::WrongLength;
-    }
-    verdict_of(category, power, error, product, location, region, name)
 }

@@ -1,33 +1,33 @@
-use Prim.Native.Nat.{ℕ, suc, ◌+◌, ◌<◌, ◌≤◌}
-use mathlib.Core.Path.{◌≡◌, ap, ◌∙◌}
-use mathlib.Core.List.{List}
-use lib.ListN.{length, get_or, drop}
-use borrow.Author.Tests.{eq-eqb, ne_eqb}
-use borrow.Author.Rules.{rules}
-use native.Mathlib.Omega.{arith}
-use Rattle.laws.proofs.Lists.{from, behind}
+-- `text_length` is the place of the first 00h, or the whole length where there is none.
+use Rattle.std.proofs.Common.{ℕ, ◌+◌, ◌≤◌, ◌<◌, ◌≡◌, refl, sym, ap, ◌∙◌, Bool, true, false, cond, List, [], ◌∷◌, length, eqb, ltb, nat_lt, rules, tests, arith, Some, None}
+use Rattle.std.proofs.lemmas.Iterator.{YieldsList-from_slice}
+use Rattle.std.proofs.lemmas.Iterator.Search.{position_from_yields_List}
+use Rattle.std.proofs.lemmas.List.Recursion.{is_position_or_len}
+use Rattle.std.specs.List.{position_or_len}
+use Rattle.std.specs.Option.{unwrap_or}
+use borrow.Author.Tests.{ltb-false}
 use Rattle.sdap.specs.Rules.{before_zero, text_length}
+use Rattle.sdap.proofs.Texts.{text_fits}
 use Rattle.sdap.proofs.text_length.Goals as goal
 
-at_zero : (t : List ℕ) (i : ℕ) → i < length t → get_or t i 0 ≡ 0 → text_length (drop i t) ≡ 0
+counted : (t : List ℕ) → text_length t ≡ position_or_len (λ x. eqb x 0) t
 unfolding before_zero
-at_zero t i h e = ap text_length (from t i 0 h) ∙ rw (eq-eqb _ _ e)
+counted t = is_position_or_len text_length (λ x. eqb x 0) refl (λ x xs. each (eqb x 0) x xs) t
+  where
+    each : (b : Bool) (x : ℕ) (xs : List ℕ) → length (cond b [] (x ∷ before_zero xs)) ≡ cond b 0 (1 + length (before_zero xs))
+    each true x xs = refl
+    each false x xs = omega arith
 
-at_other : (t : List ℕ) (i : ℕ) → i < length t → (get_or t i 0 ≡ 0 → ⊥) → text_length (drop i t) ≡ suc (text_length (drop (i + 1) t))
-unfolding before_zero
-at_other t i h n = ap text_length (from t i 0 h) ∙ rw (ne_eqb _ _ n)
-
-at_end : (t : List ℕ) (i : ℕ) → length t ≤ i → text_length (drop i t) ≡ 0
-unfolding before_zero
-at_end t i h = ap text_length (behind t i h)
-
-pub returns-then-t-i-eq0 : goal.returns-then-t-i-eq0
-returns-then-t-i-eq0 c = omega (arith, at_zero c.args.t.now c.loop-i.i c.loop-i-test.true c.if-t-i-eq0.true, c.loop-i.invariant.1)
-
-pub loop-i-preserved : goal.loop-i-preserved
-loop-i-preserved c = (search rules, omega (arith, at_other c.args.t.now c.loop-i.i c.loop-i-test.true c.if-t-i-eq0.false, c.loop-i.invariant.1))
+first : (n m : ℕ) → n ≤ m → unwrap_or (cond (nat_lt n m) (Some n) None) m ≡ n
+first n m h = go (nat_lt n m) refl
+  where
+    go : (b : Bool) → nat_lt n m ≡ b → unwrap_or (cond b (Some n) None) m ≡ n
+    go true e = refl
+    go false e = omega (arith, ltb-false n m e)
 
 pub returns : goal.returns
 returns c =
-    let h : length c.args.t.now ≤ c.loop-i.i = omega arith in
-    omega (arith, at_end c.args.t.now c.loop-i.i h, c.loop-i.invariant.1)
+    let t = c.args.t.now in
+    let e = position_from_yields_List (λ x. eqb x 0) _ _ c.position.result c.position.ensures.ran (YieldsList-from_slice t cc) (λ x b q k. search (rules, tests)) in
+    let f : position_or_len (λ x. eqb x 0) t ≤ length t = rw (← counted t) (text_fits t) in
+    c.unwrap_or.ensures ∙ ap (λ o. unwrap_or o (length t)) e ∙ first _ _ f ∙ sym (counted t)
