@@ -4,30 +4,19 @@
 ghost use Rattle.std.specs.Prelude.{◌≡◌, ◌+◌, ◌≤◌, length};
 ghost use Rattle.laws.specs.Bytes.{part};
 ghost use Rattle.laws.specs.Numbers.{number};
-ghost use Rattle.sdap.specs.Layout.{fields_of, no_fields};
-ghost use Rattle.sdap.specs.Rules.{is_front, read_answer, read_of};
+ghost use Rattle.sdap.specs.Layout.{lent_of, fields_of, no_fields};
+ghost use Rattle.sdap.specs.Rules.{Sized, is_front, read_answer, read_of};
 
-use octets::{lay, number2, number4, same_bytes};
-use sdap::{Advert, Read, verdict_of};
-use terms::{Answer, GroupId, UnitId, answer_number};
+use octets::same_bytes;
+use sdap::{Advert, Fields, Read};
+use terms::{Answer, GroupId, UnitId};
 
-// A text's bytes, by value.
-fn text12(t: &[u8]) -> [u8; 12]
-    requires { length t.now ≡ 12 }
-    ensures { result ≡ t.now }
+// The N bytes that stand at a place.
+fn bytes_at<const N: usize>(s: &[u8], at: usize) -> [u8; N]
+    requires { at + N ≤ length s.now }
+    ensures { result ≡ part at N s.now }
 {
-    let mut text = [0u8; 12];
-    lay(&mut text, 0, t);
-    text
-}
-
-fn text24(t: &[u8]) -> [u8; 24]
-    requires { length t.now ≡ 24 }
-    ensures { result ≡ t.now }
-{
-    let mut text = [0u8; 24];
-    lay(&mut text, 0, t);
-    text
+    s[at..at + N].try_into().unwrap()
 }
 
 // The number that stands at a place.
@@ -35,17 +24,18 @@ fn number2_at(s: &[u8], at: usize) -> u16
     requires { at + 2 ≤ length s.now }
     ensures { result ≡ number (part at 2 s.now) }
 {
-    number2(s[at], s[at + 1])
+    u16::from_be_bytes(bytes_at(s, at))
 }
 
 fn number4_at(s: &[u8], at: usize) -> u32
     requires { at + 4 ≤ length s.now }
     ensures { result ≡ number (part at 4 s.now) }
 {
-    number4(s[at], s[at + 1], s[at + 2], s[at + 3])
+    u32::from_be_bytes(bytes_at(s, at))
 }
 
 // The four accepted addresses.
+#[tactic(auto, unfolding(sdap::specs::Layout::fields_of))]
 fn accepted_of(s: &[u8]) -> [u32; 4]
     requires { length s.now ≡ 122 }
     ensures { result ≡ (fields_of s.now).accepted }
@@ -58,37 +48,50 @@ fn accepted_of(s: &[u8]) -> [u32; 4]
     ]
 }
 
-// The fields of 122 bytes.
-fn fields(s: &[u8]) -> Advert
+// The fields of 122 bytes, the texts where they lie.
+#[tactic(auto, unfolding(sdap::specs::Layout::fields_of))]
+fn fields(s: &[u8]) -> Fields<'_>
     requires { length s.now ≡ 122 }
-    ensures { result ≡ fields_of s.now }
+    ensures { lent_of result ≡ fields_of s.now }
 {
-    let product = text12(&s[8..20]);
-    let serial = number4_at(s, 20);
-    let power = number2_at(s, 24);
-    let location = text24(&s[26..50]);
-    let connected = number4_at(s, 50);
-    let accepted = accepted_of(s);
-    let error = number2_at(s, 70);
-    let region = text24(&s[72..96]);
-    let name = text24(&s[96..120]);
-    Advert {
+    Fields {
         category: s[3],
-        product,
-        serial,
-        power,
-        location,
-        connected,
-        accepted,
-        error,
-        region,
-        name,
+        product: &s[8..20],
+        serial: number4_at(s, 20),
+        power: number2_at(s, 24),
+        location: &s[26..50],
+        connected: number4_at(s, 50),
+        accepted: accepted_of(s),
+        error: number2_at(s, 70),
+        region: &s[72..96],
+        name: &s[96..120],
         group: GroupId(s[120]),
         unit: UnitId(s[121]),
     }
 }
 
-// Every field zero.
+// The same fields by value.
+fn advert(f: &Fields) -> Advert
+    requires { Sized (lent_of f.now) }
+    ensures { result ≡ lent_of f.now }
+{
+    Advert {
+        category: f.category,
+        product: f.product.try_into().unwrap(),
+        serial: f.serial,
+        power: f.power,
+        location: f.location.try_into().unwrap(),
+        connected: f.connected,
+        accepted: f.accepted,
+        error: f.error,
+        region: f.region.try_into().unwrap(),
+        name: f.name.try_into().unwrap(),
+        group: f.group,
+        unit: f.unit,
+    }
+}
+
+// Every field zero. Written out, since an ID has no default.
 fn no_fields() -> Advert
     ensures { result ≡ no_fields }
 {
@@ -109,28 +112,16 @@ fn no_fields() -> Advert
 }
 
 // "DA", the version and "SONY" stand at their places.
+#[tactic(auto, unfolding(sdap::specs::Rules::is_front))]
 fn is_front(s: &[u8]) -> bool
     requires { length s.now ≡ 122 }
     ensures { result ≡ is_front s.now }
 {
-    let start = [b'D', b'A', 4];
-    if !same_bytes(&s[0..3], &start) {
-        return false;
-    }
-    same_bytes(&s[4..8], b"SONY")
-}
-
-fn refused(answer: Answer) -> Read
-    ensures { result ≡ record { answer = answer; fields = no_fields } }
-{
-    Read {
-        answer,
-        fields: no_fields(),
-    }
+    same_bytes(&s[0..3], b"DA\x04") && same_bytes(&s[4..8], b"SONY")
 }
 
 // The advert reader's answer alone.
-#[tactic(auto, unfolding(sdap::specs::Rules::read_answer, sdap::specs::Layout::fields_of))]
+#[tactic(auto, unfolding(sdap::specs::Rules::read_answer))]
 pub fn read_answer(s: &[u8]) -> Answer
     ensures { result ≡ read_answer s.now }
 {
@@ -140,27 +131,22 @@ pub fn read_answer(s: &[u8]) -> Answer
     if !is_front(s) {
         return Answer::NotForUs;
     }
-    let power = number2_at(s, 24);
-    let error = number2_at(s, 70);
-    verdict_of(
-        s[3],
-        power,
-        error,
-        &s[8..20],
-        &s[26..50],
-        &s[72..96],
-        &s[96..120],
-    )
+    fields(s).verdict()
 }
 
-// The advert reader.
+// The advert reader. An answer and the fields, not one or the other: "all zero when refused".
 pub fn read_advert(s: &[u8]) -> Read
     ensures { result ≡ read_of s.now }
 {
     let answer = read_answer(s);
-    if answer_number(answer) != 0 {
-        return refused(answer);
+    if answer != Answer::Done {
+        return Read {
+            answer,
+            fields: no_fields(),
+        };
     }
-    let fields = fields(s);
-    Read { answer, fields }
+    Read {
+        answer,
+        fields: advert(&fields(s)),
+    }
 }

@@ -2,128 +2,69 @@
 #![tactic(auto)]
 
 ghost use Rattle.std.specs.Prelude.{◌≡◌, ◌≤◌, length};
-ghost use Rattle.laws.specs.Bytes.{over, laid, sent};
-ghost use Rattle.laws.specs.Numbers.{in_bytes};
-ghost use Rattle.sdap.specs.Layout.{advert_of, bytes_of, head_of, addresses_of, tail_of};
+ghost use Rattle.laws.specs.Bytes.{over, sent};
+ghost use Rattle.sdap.specs.Layout.{lent_of, bytes_of, head_of, addresses_of, tail_of};
 ghost use Rattle.sdap.specs.Rules.{Sized, Written};
 
-use octets::{bytes2, bytes4, lay};
-use sdap::write_answer;
-use terms::{Answer, GroupId, UnitId, answer_number};
-
-// A number laid over an area, high byte first.
-fn lay_number2(out: &mut [u8], at: usize, v: u16)
-    ensures { out.new ≡ laid out.old at (in_bytes 2 v) }
-{
-    let b = bytes2(v);
-    lay(out, at, &b);
-}
-
-fn lay_number4(out: &mut [u8], at: usize, v: u32)
-    ensures { out.new ≡ laid out.old at (in_bytes 4 v) }
-{
-    let b = bytes4(v);
-    lay(out, at, &b);
-}
+use octets::lay;
+use sdap::Fields;
+use terms::Answer;
 
 // The bytes 0 to 49.
-fn put_head(out: &mut [u8], category: u8, product: &[u8], serial: u32, power: u16, location: &[u8])
+fn put_head(f: &Fields, out: &mut [u8])
     requires in_bounds { 122 ≤ length out.old }
-    requires product_len { (length product.now ≡ 12) × (length location.now ≡ 24) }
-    ensures { out.new ≡ over out.old 0 (head_of category product.now serial power location.now) }
+    requires sized { Sized (lent_of f.now) }
+    ensures { out.new ≡ over out.old 0 (head_of (lent_of f.now)) }
 {
-    let front = [b'D', b'A', 4, category, b'S', b'O', b'N', b'Y'];
-    lay(out, 0, &front);
-    lay(out, 8, product);
-    lay_number4(out, 20, serial);
-    lay_number2(out, 24, power);
-    lay(out, 26, location);
+    lay(out, 0, &[b'D', b'A', 4, f.category, b'S', b'O', b'N', b'Y']);
+    lay(out, 8, f.product);
+    lay(out, 20, &f.serial.to_be_bytes());
+    lay(out, 24, &f.power.to_be_bytes());
+    lay(out, 26, f.location);
 }
 
 // The bytes 50 to 69.
-fn put_addresses(out: &mut [u8], connected: u32, accepted: [u32; 4])
+fn put_addresses(f: &Fields, out: &mut [u8])
     requires { 122 ≤ length out.old }
-    ensures { out.new ≡ over out.old 50 (addresses_of connected accepted) }
+    ensures { out.new ≡ over out.old 50 (addresses_of (lent_of f.now)) }
 {
-    lay_number4(out, 50, connected);
-    lay_number4(out, 54, accepted[0]);
-    lay_number4(out, 58, accepted[1]);
-    lay_number4(out, 62, accepted[2]);
-    lay_number4(out, 66, accepted[3]);
+    lay(out, 50, &f.connected.to_be_bytes());
+    lay(out, 54, &f.accepted[0].to_be_bytes());
+    lay(out, 58, &f.accepted[1].to_be_bytes());
+    lay(out, 62, &f.accepted[2].to_be_bytes());
+    lay(out, 66, &f.accepted[3].to_be_bytes());
 }
 
 // The bytes 70 to 121.
-fn put_tail(out: &mut [u8], error: u16, region: &[u8], name: &[u8], group: GroupId, unit: UnitId)
+fn put_tail(f: &Fields, out: &mut [u8])
     requires in_bounds { 122 ≤ length out.old }
-    requires region_len { (length region.now ≡ 24) × (length name.now ≡ 24) }
-    ensures { out.new ≡ over out.old 70 (tail_of error region.now name.now group unit) }
+    requires sized { Sized (lent_of f.now) }
+    ensures { out.new ≡ over out.old 70 (tail_of (lent_of f.now)) }
 {
-    let ids = [group.0, unit.0];
-    lay_number2(out, 70, error);
-    lay(out, 72, region);
-    lay(out, 96, name);
-    lay(out, 120, &ids);
+    lay(out, 70, &f.error.to_be_bytes());
+    lay(out, 72, f.region);
+    lay(out, 96, f.name);
+    lay(out, 120, &[f.group.0, f.unit.0]);
 }
 
 // The 122 bytes at the front of an area.
-fn put_advert(
-    category: u8,
-    product: &[u8],
-    serial: u32,
-    power: u16,
-    location: &[u8],
-    connected: u32,
-    accepted: [u32; 4],
-    error: u16,
-    region: &[u8],
-    name: &[u8],
-    group: GroupId,
-    unit: UnitId,
-    out: &mut [u8],
-)
+fn put_advert(f: &Fields, out: &mut [u8])
     requires in_bounds { 122 ≤ length out.old }
-    requires sized { Sized product.now location.now region.now name.now }
-    ensures { out.new ≡ sent (bytes_of (advert_of category product.now serial power location.now connected accepted error region.now name.now group unit)) out.old }
+    requires sized { Sized (lent_of f.now) }
+    ensures { out.new ≡ sent (bytes_of (lent_of f.now)) out.old }
 {
-    put_head(out, category, product, serial, power, location);
-    put_addresses(out, connected, accepted);
-    put_tail(out, error, region, name, group, unit);
+    put_head(f, out);
+    put_addresses(f, out);
+    put_tail(f, out);
 }
 
 // The advert writer.
-pub fn write_advert(
-    category: u8,
-    product: &[u8],
-    serial: u32,
-    power: u16,
-    location: &[u8],
-    connected: u32,
-    accepted: [u32; 4],
-    error: u16,
-    region: &[u8],
-    name: &[u8],
-    group: GroupId,
-    unit: UnitId,
-    out: &mut [u8],
-) -> Answer
-    ensures { Written (advert_of category product.now serial power location.now connected accepted error region.now name.now group unit) out.old result out.new }
+pub fn write_advert(f: &Fields, out: &mut [u8]) -> Answer
+    ensures { Written (lent_of f.now) out.old result out.new }
 {
-    let answer = write_answer(
-        out.len(),
-        category,
-        power,
-        error,
-        product,
-        location,
-        region,
-        name,
-    );
-    if answer_number(answer) != 0 {
-        return answer;
+    let answer = f.write_answer(out.len());
+    if answer == Answer::Done {
+        put_advert(f, out);
     }
-    put_advert(
-        category, product, serial, power, location, connected, accepted, error, region, name,
-        group, unit, out,
-    );
     answer
 }

@@ -1,38 +1,33 @@
 -- `read_advert` gives the fields with the answer 0, and none with a refusal.
-use Prim.Native.Nat.{ℕ}
-use mathlib.Core.Path.{◌≡◌, sym, ap, ◌∙◌}
-use mathlib.Core.List.{List}
+use Rattle.std.proofs.Common.{ℕ, ◌≡◌, sym, ap, subst, ◌∙◌, List, length, rules, tests, arith}
 use borrow.Author.Tests.{eq-eqb, ne_eqb}
-use Rattle.sdap.specs.Layout.{no_fields}
-use Rattle.sdap.specs.Rules.{read_answer, read_of}
-use Rattle.sdap.proofs.Accepted.{readable}
 use Rattle.terms.specs.Answers.{number_of}
-use Rattle.sdap.specs.declared.Read.{Read}
+use Rattle.terms.proofs.Answers.{number_tells}
 use Rattle.terms.specs.declared.Answer.{Answer}
+use Rattle.terms.specs.declared.Answer.TheVariants.{Done}
+use Rattle.sdap.specs.Rules.{Sized, read_answer, read_of}
+use Rattle.sdap.proofs.Accepted.{readable}
+use Rattle.sdap.proofs.Lengths.{read_sized}
 use Rattle.sdap_read.proofs.read_advert.Goals as goal
 
-refusal : (l : List ℕ) (answer : Answer) (n : ℕ) (r : Read) → answer ≡ read_answer l → n ≡ number_of answer → (n ≡ 0 → ⊥)
-    → r ≡ record { answer = answer; fields = no_fields } → r ≡ read_of l
+whole : (l : List ℕ) (answer : Answer) → answer ≡ read_answer l → answer ≡ Done → length l ≡ 122
+whole l answer e d = (readable l (ap number_of (sym e ∙ d))).long
+
+pub returns-then-ne : goal.returns-then-ne
 unfolding read_of
-refusal l answer n r e f z q = q ∙ rw (e, ne_eqb (number_of (read_answer l)) 0 (λ k. z (f ∙ ap number_of e ∙ k)))
+returns-then-ne c =
+    let refused : c.read_answer-answer.result ≡ Done → ⊥ = λ e. search (rules, tests) in
+    let answer = c.read_answer-answer.ensures in
+    rw (c.no_fields.ensures, answer, ne_eqb (number_of (read_answer c.args.s.now)) 0 (λ z. refused (answer ∙ number_tells _ Done (omega arith) z)))
 
-zero_is : (l : List ℕ) (answer : Answer) (n : ℕ) → answer ≡ read_answer l → n ≡ number_of answer → n ≡ 0 → number_of (read_answer l) ≡ 0
-zero_is l answer n e f z = sym (ap number_of e) ∙ sym f ∙ z
+pub fields-requires : goal.fields-requires
+fields-requires c = whole c.args.s.now _ c.read_answer-answer.ensures (search (rules, tests))
 
-pub returns-then-answer_number-ne0 : goal.returns-then-answer_number-ne0
-returns-then-answer_number-ne0 c =
-    let n = c.if-answer_number-ne0.true in
-    refusal c.args.s.now c.read_answer-answer.result c.answer_number.result _ c.read_answer-answer.ensures c.answer_number.ensures n c.refused.ensures
-
-pub fields-fields-requires : goal.fields-fields-requires
-fields-fields-requires c =
-    let s = c.args.s.now in
-    let r = c.read_answer-answer in
-    (readable s (zero_is s r.result c.answer_number.result r.ensures c.answer_number.ensures c.if-answer_number-ne0.false)).long
+pub advert-requires : goal.advert-requires
+advert-requires c = subst Sized (sym c.fields.ensures) (read_sized _ (whole c.args.s.now _ c.read_answer-answer.ensures (search (rules, tests))))
 
 pub returns : goal.returns
 unfolding read_of
 returns c =
-    let s = c.args.s.now in
-    let z = zero_is s c.read_answer-answer.result c.answer_number.result c.read_answer-answer.ensures c.answer_number.ensures c.if-answer_number-ne0.false in
-    rw (c.read_answer-answer.ensures, c.fields-fields.ensures, eq-eqb (number_of (read_answer s)) 0 z)
+    let done : c.read_answer-answer.result ≡ Done = search (rules, tests) in
+    rw (c.advert.ensures, c.fields.ensures, eq-eqb (number_of (read_answer c.args.s.now)) 0 (ap number_of (sym c.read_answer-answer.ensures ∙ done)), c.read_answer-answer.ensures)
