@@ -16,10 +16,11 @@ use host_box::{make_box, panel_behind, take_message};
 use panels::{DisplayBox, Panel};
 use reader::{Listing, read_plain};
 use receiver::{Receiver, take_piece};
+use sdap::Fields;
 use sdap_read::read_answer;
 use sdap_write::write_advert;
 use sums::sums_to_zero;
-use terms::{GroupId, UnitId, answer_number};
+use terms::{GroupId, UnitId};
 
 // What the host is told of a message: the answer's number and its place in the message, and the reply's length.
 #[repr(C)]
@@ -118,7 +119,7 @@ pub extern "C" fn box_checksum_ok(area: &[u8]) -> bool
 pub extern "C" fn box_advert_read(bytes: &[u8]) -> u8
     ensures { result ≡ number_of (read_answer bytes.now) }
 {
-    answer_number(read_answer(bytes))
+    read_answer(bytes).number()
 }
 
 // The advert writer: "it returns the number alone".
@@ -143,20 +144,19 @@ pub extern "C" fn box_advert_write(
 ) -> u8
     ensures { WrittenForC (fields_from_c category product.now serial power location.now connected accepted1 accepted2 accepted3 accepted4 error region.now name.now group unit) out.old result out.new }
 {
-    let answer = write_advert(
+    let fields = Fields {
         category,
         product,
         serial,
         power,
         location,
         connected,
-        [accepted1, accepted2, accepted3, accepted4],
+        accepted: [accepted1, accepted2, accepted3, accepted4],
         error,
         region,
         name,
-        GroupId(group),
-        UnitId(unit),
-        out,
-    );
-    answer_number(answer)
+        group: GroupId(group),
+        unit: UnitId(unit),
+    };
+    write_advert(&fields, out).number()
 }

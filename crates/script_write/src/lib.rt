@@ -7,6 +7,7 @@ ghost use Rattle.sdap.specs.Rules.{Written};
 ghost use Rattle.script_write.specs.Wanted.{wanted};
 
 use script_words::{ANY, bytes_at, number_at};
+use sdap::Fields;
 use sdap_write::write_advert;
 use terms::{Answer, GroupId, UnitId};
 
@@ -42,19 +43,19 @@ pub fn write_fields(line: &[u8], area: &mut [u8]) -> Answer
         number_at(line, 10, ANY),
         number_at(line, 11, ANY),
     ];
-    write_advert(
-        byte_in(line, 2),
-        &product[..p],
-        number_at(line, 4, ANY),
-        short_in(line, 5),
-        &location[..l],
-        number_at(line, 7, ANY),
+    let fields = Fields {
+        category: byte_in(line, 2),
+        product: &product[..p],
+        serial: number_at(line, 4, ANY),
+        power: short_in(line, 5),
+        location: &location[..l],
+        connected: number_at(line, 7, ANY),
         accepted,
-        short_in(line, 12),
-        &region[..r],
-        &name[..n],
-        GroupId(byte_in(line, 15)),
-        UnitId(byte_in(line, 16)),
-        area,
-    )
+        error: short_in(line, 12),
+        region: &region[..r],
+        name: &name[..n],
+        group: GroupId(byte_in(line, 15)),
+        unit: UnitId(byte_in(line, 16)),
+    };
+    write_advert(&fields, area)
 }

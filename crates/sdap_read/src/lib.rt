@@ -7,7 +7,6 @@ ghost use Rattle.laws.specs.Numbers.{number};
 ghost use Rattle.sdap.specs.Layout.{lent_of, fields_of, no_fields};
 ghost use Rattle.sdap.specs.Rules.{Sized, is_front, read_answer, read_of};
 
-use octets::same_bytes;
 use sdap::{Advert, Fields, Read};
 use terms::{Answer, GroupId, UnitId};
 
@@ -112,12 +111,12 @@ fn no_fields() -> Advert
 }
 
 // "DA", the version and "SONY" stand at their places.
-#[tactic(auto, unfolding(sdap::specs::Rules::is_front))]
+#[tactic(auto, using(laws::proofs::Library::same_pointwise), unfolding(sdap::specs::Rules::is_front))]
 fn is_front(s: &[u8]) -> bool
     requires { length s.now ≡ 122 }
     ensures { result ≡ is_front s.now }
 {
-    same_bytes(&s[0..3], b"DA\x04") && same_bytes(&s[4..8], b"SONY")
+    s[..3] == b"DA\x04"[..] && s[4..8] == b"SONY"[..]
 }
 
 // The advert reader's answer alone.
