@@ -1,104 +1,90 @@
 -- Document 02, §8: of a frame that is ours the first part that is wrong is told, for the envelope is a ladder in the order of the parts.
 use mathlib.Core.Path.{◌≡◌, refl, ap, subst, ◌∙◌}
-use mathlib.Core.Bool.{Bool, true, false, ◌&&◌, ◌||◌}
+use mathlib.Core.Bool.{true, false}
 use mathlib.Core.List.{List}
-use Prim.Native.Nat.{ℕ, ◌+◌, ◌-◌, ◌*◌, ◌%◌, ◌≤◌}
-use lib.Count.{ones}
+use Prim.Native.Nat.{ℕ, ◌+◌, ◌-◌, ◌≤◌}
 use lib.Dec.{eqb, ltb}
 use lib.ListN.{length, drop}
 use borrow.Author.Tests.{eq-eqb, ne_eqb, eqb-true, eqb-false, le-ltb, not-true, not-false}
+use Rattle.std.specs.Prelude.{Option, Some, None, Result, Ok, Err}
 use Rattle.laws.proofs.Conditions.{choose}
 use Rattle.sums.specs.Sums.{sums_to_zero}
-use Rattle.terms.specs.declared.Answer.TheVariants.{WrongLength, NotForUs}
+use Rattle.terms.specs.declared.Answer.{Answer}
+use Rattle.terms.specs.declared.Answer.TheVariants.{WrongLength, NotForUs, NotUnderstood}
 use Rattle.terms.specs.declared.Part.{Part}
 use Rattle.terms.specs.declared.Part.TheVariants.{Request, Item, TooLong, NotMatching, Count, Checksum}
-use Rattle.terms.specs.declared.Envelope.{Envelope}
-use Rattle.terms.specs.declared.Envelope.TheVariants.{Good, Wrong}
-use Rattle.rs232c_asks.specs.Asks.{count_of, source_of, code_of, data_of, is_foreign, count_wrong, sum_wrong, envelope_of, unless_wrong, first, second, if_good, config_command, select_command, levels_command, sense_command, remote_command, command_of, heard_of}
-use Rattle.rs232c_asks.specs.Commands.{config_good, select_good}
+use Rattle.rs232c_asks.specs.Asks.{count_of, source_of, code_of, data_of, is_foreign, count_wrong, sum_wrong, envelope_of, unless_wrong, command_of, order_of, Heard, from_source, understood, not_understood, broken, heard_of}
 use Rattle.rs232c_asks.specs.declared.Order.{Order}
-use Rattle.rs232c_asks.specs.declared.Order.TheVariants.{Config, Select, Levels, Sense, Remote}
-use Rattle.rs232c_asks.specs.declared.Heard.{Heard}
-use Rattle.rs232c_asks.specs.declared.Heard.TheVariants.{Refused, Broken, NotUnderstood, Understood}
+use Rattle.rs232c_asks.specs.declared.Asked.{Asked}
 
 -- ---- a frame that is ours: its envelope decides, whatever its command
 
 module _ (m : List ℕ) (long : 6 ≤ length m) (ours : is_foreign m ≡ false) where
-  enclosed : heard_of m ≡ unless_wrong (source_of m) (envelope_of m) (command_of (source_of m) (code_of m) (data_of m))
+  enclosed : heard_of m ≡ from_source (source_of m) (order_of m)
   unfolding heard_of
   enclosed = rw (le-ltb (length m) 6 long, ours)
 
-  by_envelope : (e : Envelope) → envelope_of m ≡ e → heard_of m ≡ unless_wrong (source_of m) e (command_of (source_of m) (code_of m) (data_of m))
-  by_envelope e w = enclosed ∙ ap (λ (x : Envelope). unless_wrong (source_of m) x (command_of (source_of m) (code_of m) (data_of m))) w
+  by_envelope : (e : Result (Unit {0}) Part) → envelope_of m ≡ e → heard_of m ≡ from_source (source_of m) (unless_wrong e (command_of (code_of m) (data_of m)))
+  unfolding order_of
+  by_envelope e w = enclosed ∙ ap (λ (x : Result (Unit {0}) Part). from_source (source_of m) (unless_wrong x (command_of (code_of m) (data_of m)))) w
 
-  pub wrong_heard : (p : Part) → envelope_of m ≡ Wrong p → heard_of m ≡ Broken (source_of m) p
-  wrong_heard p = by_envelope (Wrong p)
+  pub wrong_heard : (p : Part) → envelope_of m ≡ Err p → heard_of m ≡ broken (source_of m) p
+  wrong_heard p = by_envelope (Err p)
 
-  pub good_heard : envelope_of m ≡ Good → heard_of m ≡ command_of (source_of m) (code_of m) (data_of m)
-  good_heard = by_envelope Good
+  pub good_heard : envelope_of m ≡ Ok tt → heard_of m ≡ from_source (source_of m) (unless_wrong (Ok tt) (command_of (code_of m) (data_of m)))
+  good_heard = by_envelope (Ok tt)
 
   -- each part alone, and behind the one before it
-  pub count_told : (count_of m + 3 ≡ length m → ⊥) → heard_of m ≡ Broken (source_of m) Count
+  pub count_told : (count_of m + 3 ≡ length m → ⊥) → heard_of m ≡ broken (source_of m) Count
   unfolding envelope_of
   count_told n = wrong_heard Count (rw (ne_eqb (count_of m + 3) (length m) n))
 
-  pub checksum_told : count_of m + 3 ≡ length m → sums_to_zero (drop 1 m) ≡ false → heard_of m ≡ Broken (source_of m) (Checksum (length m - 1))
+  pub checksum_told : count_of m + 3 ≡ length m → sums_to_zero (drop 1 m) ≡ false → heard_of m ≡ broken (source_of m) (Checksum (length m - 1))
   unfolding envelope_of
   checksum_told c s = wrong_heard (Checksum (length m - 1)) (rw (eq-eqb (count_of m + 3) (length m) c, s))
 
 -- ---- behind the envelope a frame is understood or it is not
 
+abbrev JudgedOrder : Result Order Answer → Type 0
+JudgedOrder (Ok o) = Unit {0}
+JudgedOrder (Err a) = a ≡ NotUnderstood
+
 -- neither refused nor broken
 abbrev pub Judged : Heard → Type 0
-Judged (Refused a) = ⊥
-Judged (Broken s p) = ⊥
-Judged (NotUnderstood s) = Unit {0}
-Judged (Understood s o) = Unit {0}
+Judged (Err a) = ⊥
+Judged (Ok x) = JudgedOrder x.order
 
-good_judged : (good : Bool) (s : ℕ) (o : Order) → Judged (if_good good s o)
-good_judged true s o = tt
-good_judged false s o = tt
-
-pub command_judged : (s code : ℕ) (bytes : List ℕ) → Judged (command_of s code bytes)
-unfolding command_of config_command select_command levels_command sense_command remote_command
-command_judged s code bytes =
-    let n = length bytes in
-    let x = first bytes in
-    let y = second bytes in
-    choose Judged (eqb code 0x21) _ _ (λ e. good_judged (eqb n 2 && config_good x y) s (Config x y))
-    (λ e. choose Judged (eqb code 0x22) _ _ (λ f. good_judged (eqb n 1 && select_good x) s (Select x))
-    (λ f. choose Judged (eqb code 0x40) _ _ (λ g. good_judged (eqb n (1 + 2 * ones (x % 64))) s (Levels x))
-    (λ g. choose Judged (eqb code 0x61) _ _ (λ h. good_judged (eqb n 1 && (eqb x 1 || eqb x 2)) s (Sense x))
-    (λ h. choose Judged (eqb code 0x6e) _ _ (λ i. good_judged (eqb n 0) s Remote) (λ i. tt)))))
+pub command_judged : (s code : ℕ) (bytes : List ℕ) → Judged (from_source s (unless_wrong (Ok tt) (command_of code bytes)))
+command_judged s code bytes = go (command_of code bytes)
+  where
+    go : (o : Option Order) → JudgedOrder (unless_wrong (Ok tt) o)
+    go (Some o) = tt
+    go None = refl
 
 -- ---- the other way: what was told is what is wrong
 
 -- what holds on each rung of the ladder holds of what was heard
-pub by_rungs : (P : Heard → Type 0) (m : List ℕ) → P (Refused WrongLength) → P (Refused NotForUs) → ((p : Part) → envelope_of m ≡ Wrong p → P (Broken (source_of m) p)) → P (command_of (source_of m) (code_of m) (data_of m)) → P (heard_of m)
-unfolding heard_of
-by_rungs P m short foreign broken command = choose P (ltb (length m) 6) _ _ (λ e. short) (λ e. choose P (is_foreign m) _ _ (λ f. foreign) (λ f. go (envelope_of m) refl))
+pub by_rungs : (P : Heard → Type 0) (m : List ℕ) → P (Err WrongLength) → P (Err NotForUs) → ((p : Part) → envelope_of m ≡ Err p → P (broken (source_of m) p))
+    → (command_of (code_of m) (data_of m) ≡ None → P (not_understood (source_of m))) → ((o : Order) → command_of (code_of m) (data_of m) ≡ Some o → P (understood (source_of m) o)) → P (heard_of m)
+unfolding heard_of order_of
+by_rungs P m short foreign wrong strange clear = choose P (ltb (length m) 6) _ _ (λ e. short) (λ e. choose P (is_foreign m) _ _ (λ f. foreign) (λ f. go (envelope_of m) (command_of (code_of m) (data_of m)) refl refl))
   where
-    go : (e : Envelope) → envelope_of m ≡ e → P (unless_wrong (source_of m) e (command_of (source_of m) (code_of m) (data_of m)))
-    go Good e = command
-    go (Wrong p) e = broken p e
+    go : (e : Result (Unit {0}) Part) (o : Option Order) → envelope_of m ≡ e → command_of (code_of m) (data_of m) ≡ o → P (from_source (source_of m) (unless_wrong e o))
+    go (Err p) o e f = wrong p e
+    go (Ok u) (Some o) e f = clear o f
+    go (Ok u) None e f = strange f
+
+-- what was heard of two frames in one way came from one source, with one order
+pub same_heard : {s t : ℕ} {o o' : Result Order Answer} → from_source s o ≡ from_source t o' → (s ≡ t) × (o ≡ o')
+same_heard {s} {t} {o} {o'} e =
+    let same : ◌≡◌ {A = Asked} (record { source = s; order = o }) (record { source = t; order = o' }) = cc in
+    (ap (λ (x : Asked). x.source) same, ap (λ (x : Asked). x.order) same)
 
 -- nothing but a wrong envelope is broken
-abbrev Found : Envelope → Heard → Type 0
-Found e (Refused a) = Unit {0}
-Found e (Broken s p) = e ≡ Wrong p
-Found e (NotUnderstood s) = Unit {0}
-Found e (Understood s o) = Unit {0}
-
-judged_found : (e : Envelope) (h : Heard) → Judged h → Found e h
-judged_found e (Refused a) j = tt
-judged_found e (Broken s p) j = absurd j
-judged_found e (NotUnderstood s) j = tt
-judged_found e (Understood s o) j = tt
-
-pub broken_is : (m : List ℕ) (s : ℕ) (p : Part) → heard_of m ≡ Broken s p → envelope_of m ≡ Wrong p
-broken_is m s p e =
-    let j = command_judged (source_of m) (code_of m) (data_of m) in
-    subst (Found (envelope_of m)) e (by_rungs (Found (envelope_of m)) m tt tt (λ q w. w) (judged_found (envelope_of m) (command_of (source_of m) (code_of m) (data_of m)) j))
+pub broken_is : (m : List ℕ) (s : ℕ) (p : Part) → heard_of m ≡ broken s p → envelope_of m ≡ Err p
+broken_is m s p =
+    by_rungs (λ (h : Heard). h ≡ broken s p → envelope_of m ≡ Err p) m (λ e. absurd (cc)) (λ e. absurd (cc)) (λ q w e. let o = (same_heard e).1 in cc)
+    (λ n e. let o = (same_heard e).1 in absurd (cc)) (λ q n e. let o = (same_heard e).1 in absurd (cc))
 
 -- in words: the part is wrong, and none before it; a frame has a byte count and a checksum alone
 abbrev pub FirstWrong : List ℕ → Part → Type 0
@@ -113,9 +99,9 @@ FirstWrong m (Checksum place) = (count_of m + 3 ≡ length m) × (sums_to_zero (
 abbrev pub Whole : List ℕ → Type 0
 Whole m = (count_of m + 3 ≡ length m) × (sums_to_zero (drop 1 m) ≡ true)
 
-abbrev Says : List ℕ → Envelope → Type 0
-Says m Good = Whole m
-Says m (Wrong p) = FirstWrong m p
+abbrev Says : List ℕ → Result (Unit {0}) Part → Type 0
+Says m (Ok u) = Whole m
+Says m (Err p) = FirstWrong m p
 
 says : (m : List ℕ) → Says m (envelope_of m)
 unfolding envelope_of
@@ -126,8 +112,8 @@ says m =
     let c' = eqb-true (count_of m + 3) (length m) (not-false n c) in
     choose (Says m) (sum_wrong m) _ _ (λ e. (c', not-true s e, refl)) (λ e. (c', not-false s e)))
 
-pub first_wrong : (m : List ℕ) (p : Part) → envelope_of m ≡ Wrong p → FirstWrong m p
+pub first_wrong : (m : List ℕ) (p : Part) → envelope_of m ≡ Err p → FirstWrong m p
 first_wrong m p e = subst (Says m) e (says m)
 
-pub good_whole : (m : List ℕ) → envelope_of m ≡ Good → Whole m
+pub good_whole : (m : List ℕ) → envelope_of m ≡ Ok tt → Whole m
 good_whole m e = subst (Says m) e (says m)

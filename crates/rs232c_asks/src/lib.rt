@@ -4,13 +4,20 @@
 ghost use Rattle.std.specs.Prelude.{◌≡◌, ◌≤◌, length};
 ghost use Rattle.laws.specs.Lists.{listed};
 ghost use Rattle.panels.specs.Records.{connectors, presets};
-ghost use Rattle.rs232c_asks.specs.Asks.{is_foreign, envelope_of, config_command, select_command, levels_command, sense_command, remote_command, command_of, heard_of};
+ghost use Rattle.rs232c_asks.specs.Asks.{is_foreign, envelope_of, config_command, select_command, levels_command, sense_command, remote_command, command_of, order_of, heard_of};
 ghost use Rattle.rs232c_asks.specs.Commands.{connector_good, preset_good, config_good, select_good};
 
 use octets::{byte_at, is_listed, ones_of};
 use panels::{CONNECTORS, PRESETS};
 use sums::sums_to_zero;
-use terms::{Answer, Envelope, Part};
+use terms::{Answer, Part};
+
+// What 61h asks for, by its byte.
+#[derive(Clone, Copy)]
+pub enum Which {
+    Gains = 1,
+    Biases = 2,
+}
 
 // What a command block orders.
 #[derive(Clone, Copy)]
@@ -21,22 +28,17 @@ pub enum Order {
     Select(u8),
     // 40h: the mask; its values stand behind it in the frame
     Levels(u8),
-    // 61h: 1 gains, 2 biases
-    Sense(u8),
+    // 61h
+    Sense(Which),
     // 6Eh
     Remote,
 }
 
-// What a message asks. The number is the source, to which the reply goes.
+// What a frame that is ours asks: the source, to which the reply goes, and the order, or the answer where there is none.
 #[derive(Clone, Copy)]
-pub enum Heard {
-    // 3 and 4: no reply
-    Refused(Answer),
-    // 13 and 14
-    Broken(u8, Part),
-    // 6
-    NotUnderstood(u8),
-    Understood(u8, Order),
+pub struct Asked {
+    pub source: u8,
+    pub order: Result<Order, Answer>,
 }
 
 // First byte, destination and source.
@@ -44,193 +46,152 @@ pub enum Heard {
 fn is_foreign(m: &[u8]) -> bool
     ensures { result ≡ is_foreign m.now }
 {
-    if byte_at(m, 0) != 2 {
-        return true;
-    }
-    if byte_at(m, 2) != 1 {
-        return true;
-    }
-    let source = byte_at(m, 3);
-    if source < 0x41 {
-        return true;
-    }
-    0x7F < source
+    byte_at(m, 0) != 2 || byte_at(m, 2) != 1 || !(0x41..=0x7F).contains(&byte_at(m, 3))
 }
 
 // Byte count and checksum, in this order. A frame whose byte count is right has at most 258 bytes.
-fn envelope_of(m: &[u8]) -> Envelope
+#[tactic(auto, unfolding(crate::specs::Asks::envelope_of))]
+fn envelope_of(m: &[u8]) -> Result<(), Part>
     requires { 6 ≤ length m.now }
     ensures { result ≡ envelope_of m.now }
 {
-    let count = byte_at(m, 1) as usize;
-    if count + 3 != m.len() {
-        return Envelope::Wrong(Part::Count);
+    if m[1] as usize + 3 != m.len() {
+        return Err(Part::Count);
     }
-    let summed = &m[1..];
-    if sums_to_zero(summed) {
-        return Envelope::Good;
+    if !sums_to_zero(&m[1..]) {
+        return Err(Part::Checksum((m.len() - 1) as u16));
     }
-    let last = (m.len() - 1) as u16;
-    Envelope::Wrong(Part::Checksum(last))
-}
-
-fn is_connector(code: u8) -> bool
-    ensures { result ≡ listed connectors code }
-{
-    let connectors = CONNECTORS;
-    is_listed(&connectors, code)
-}
-
-fn is_preset(code: u8) -> bool
-    ensures { result ≡ listed presets code }
-{
-    let presets = PRESETS;
-    is_listed(&presets, code)
+    Ok(())
 }
 
 // 21h: the connector's code is listed, where it is marked.
+#[tactic(auto, unfolding(crate::specs::Commands::connector_good))]
 fn connector_good(marks: u8, byte: u8) -> bool
     ensures { result ≡ connector_good marks byte }
 {
-    if marks % 2 != 1 {
-        return true;
-    }
-    is_connector(byte % 16)
+    marks % 2 != 1 || is_listed(&CONNECTORS, byte % 16)
 }
 
 // 21h: the preset's code is listed, where it is marked.
+#[tactic(auto, unfolding(crate::specs::Commands::preset_good))]
 fn preset_good(marks: u8, byte: u8) -> bool
     ensures { result ≡ preset_good marks byte }
 {
-    if marks / 2 % 2 != 1 {
-        return true;
-    }
-    is_preset(byte / 16 % 8)
+    marks / 2 % 2 != 1 || is_listed(&PRESETS, byte / 16 % 8)
 }
 
 // 21h: both parts.
+#[tactic(auto, unfolding(crate::specs::Commands::config_good))]
 fn config_good(marks: u8, byte: u8) -> bool
     ensures { result ≡ config_good marks byte }
 {
-    if !connector_good(marks, byte) {
-        return false;
-    }
-    preset_good(marks, byte)
+    connector_good(marks, byte) && preset_good(marks, byte)
 }
 
 // 22h: an act, with a listed connector where the act looks at it.
+#[tactic(auto, unfolding(crate::specs::Commands::select_good))]
 fn select_good(byte: u8) -> bool
     ensures { result ≡ select_good byte }
 {
-    let act = byte / 16 % 4;
-    if act == 3 {
-        return true;
+    match byte / 16 % 4 {
+        3 => true,
+        0 => false,
+        _ => is_listed(&CONNECTORS, byte % 16),
     }
-    if act == 0 {
-        return false;
-    }
-    is_connector(byte % 16)
 }
 
 // The command, by its code and its data bytes.
-fn command_of(source: u8, code: u8, bytes: &[u8]) -> Heard
-    ensures { result ≡ command_of source code bytes.now }
+#[tactic(auto, unfolding(crate::specs::Asks::command_of))]
+fn command_of(code: u8, bytes: &[u8]) -> Option<Order>
+    ensures { result ≡ command_of code bytes.now }
 {
-    if code == 0x21 {
-        return config_command(source, bytes);
+    match code {
+        0x21 => config_command(bytes),
+        0x22 => select_command(bytes),
+        0x40 => levels_command(bytes),
+        0x61 => sense_command(bytes),
+        0x6E => remote_command(bytes),
+        _ => None,
     }
-    if code == 0x22 {
-        return select_command(source, bytes);
-    }
-    if code == 0x40 {
-        return levels_command(source, bytes);
-    }
-    if code == 0x61 {
-        return sense_command(source, bytes);
-    }
-    if code == 0x6E {
-        return remote_command(source, bytes);
-    }
-    Heard::NotUnderstood(source)
 }
 
-fn config_command(source: u8, bytes: &[u8]) -> Heard
-    ensures { result ≡ config_command source bytes.now }
+#[tactic(auto, unfolding(crate::specs::Asks::config_command))]
+fn config_command(bytes: &[u8]) -> Option<Order>
+    ensures { result ≡ config_command bytes.now }
 {
-    if bytes.len() != 2 {
-        return Heard::NotUnderstood(source);
+    match *bytes {
+        [marks, byte] if config_good(marks, byte) => Some(Order::Config(marks, byte)),
+        _ => None,
     }
-    let marks = byte_at(bytes, 0);
-    let byte = byte_at(bytes, 1);
-    if !config_good(marks, byte) {
-        return Heard::NotUnderstood(source);
-    }
-    Heard::Understood(source, Order::Config(marks, byte))
 }
 
-fn select_command(source: u8, bytes: &[u8]) -> Heard
-    ensures { result ≡ select_command source bytes.now }
+#[tactic(auto, unfolding(crate::specs::Asks::select_command))]
+fn select_command(bytes: &[u8]) -> Option<Order>
+    ensures { result ≡ select_command bytes.now }
 {
-    if bytes.len() != 1 {
-        return Heard::NotUnderstood(source);
+    match *bytes {
+        [byte] if select_good(byte) => Some(Order::Select(byte)),
+        _ => None,
     }
-    let byte = byte_at(bytes, 0);
-    if !select_good(byte) {
-        return Heard::NotUnderstood(source);
-    }
-    Heard::Understood(source, Order::Select(byte))
 }
 
 // The count of ones in the mask fixes the number of data bytes, before anything is applied.
-fn levels_command(source: u8, bytes: &[u8]) -> Heard
-    ensures { result ≡ levels_command source bytes.now }
+#[tactic(auto, unfolding(crate::specs::Asks::levels_command))]
+fn levels_command(bytes: &[u8]) -> Option<Order>
+    ensures { result ≡ levels_command bytes.now }
 {
-    let mask = byte_at(bytes, 0);
-    if bytes.len() != 1 + 2 * ones_of(mask % 64) {
-        return Heard::NotUnderstood(source);
+    let (mask, values) = bytes.split_first()?;
+    if values.len() != 2 * ones_of(*mask % 64) {
+        return None;
     }
-    Heard::Understood(source, Order::Levels(mask))
+    Some(Order::Levels(*mask))
 }
 
-fn sense_command(source: u8, bytes: &[u8]) -> Heard
-    ensures { result ≡ sense_command source bytes.now }
+#[tactic(auto, unfolding(crate::specs::Asks::sense_command))]
+fn sense_command(bytes: &[u8]) -> Option<Order>
+    ensures { result ≡ sense_command bytes.now }
 {
-    if bytes.len() != 1 {
-        return Heard::NotUnderstood(source);
+    match *bytes {
+        [1] => Some(Order::Sense(Which::Gains)),
+        [2] => Some(Order::Sense(Which::Biases)),
+        _ => None,
     }
-    let which = byte_at(bytes, 0);
-    if which == 1 {
-        return Heard::Understood(source, Order::Sense(which));
-    }
-    if which != 2 {
-        return Heard::NotUnderstood(source);
-    }
-    Heard::Understood(source, Order::Sense(which))
 }
 
-fn remote_command(source: u8, bytes: &[u8]) -> Heard
-    ensures { result ≡ remote_command source bytes.now }
+#[tactic(auto, unfolding(crate::specs::Asks::remote_command))]
+fn remote_command(bytes: &[u8]) -> Option<Order>
+    ensures { result ≡ remote_command bytes.now }
 {
-    if bytes.len() != 0 {
-        return Heard::NotUnderstood(source);
+    if bytes.is_empty() {
+        Some(Order::Remote)
+    } else {
+        None
     }
-    Heard::Understood(source, Order::Remote)
 }
 
-// What a message asks.
-pub fn hear(m: &[u8]) -> Heard
+// What a frame that is ours orders, or the answer: 13 and 14 by its envelope, 6 by its command.
+#[tactic(auto, unfolding(crate::specs::Asks::order_of))]
+fn order_of(m: &[u8]) -> Result<Order, Answer>
+    requires { 6 ≤ length m.now }
+    ensures { result ≡ order_of m.now }
+{
+    envelope_of(m).map_err(Answer::PartWrong)?;
+    command_of(m[4], &m[5..m.len() - 1]).ok_or(Answer::NotUnderstood)
+}
+
+// What a message asks. An answer in place of what is asked, 3 or 4, goes without a reply.
+#[tactic(auto, unfolding(crate::specs::Asks::heard_of))]
+pub fn hear(m: &[u8]) -> Result<Asked, Answer>
     ensures { result ≡ heard_of m.now }
 {
     if m.len() < 6 {
-        return Heard::Refused(Answer::WrongLength);
+        return Err(Answer::WrongLength);
     }
     if is_foreign(m) {
-        return Heard::Refused(Answer::NotForUs);
+        return Err(Answer::NotForUs);
     }
-    let source = byte_at(m, 3);
-    if let Envelope::Wrong(part) = envelope_of(m) {
-        return Heard::Broken(source, part);
-    }
-    let bytes = &m[5..m.len() - 1];
-    command_of(source, byte_at(m, 4), bytes)
+    Ok(Asked {
+        source: m[3],
+        order: order_of(m),
+    })
 }

@@ -1,3 +1,4 @@
 pub mod Decode
 pub mod Determined
 mod Signed
+mod Values

@@ -1,15 +1,16 @@
 // RS-232C: 40h carried out on a W panel's white balance (document 01, "RS-232C (002, 004)").
 #![tactic(auto)]
 
-ghost use Rattle.std.specs.Prelude.{◌≡◌, ◌≤◌, get_or, take, drop};
+ghost use Rattle.std.specs.Prelude.{◌≡◌, ◌<◌, ◌≤◌, None, get_or};
 ghost use Rattle.rs232c_asks.specs.Asks.{values_of};
-ghost use Rattle.rs232c_levels.specs.Levels.{gain_of, bias_of, put, decode, puts, balanced_by};
-ghost use Rattle.rs232c_levels.specs.Places.{said};
+ghost use Rattle.rs232c_levels.specs.Levels.{gain_of, bias_of, decode, balanced_by};
 
-use octets::{byte_at, ones_of};
+use octets::ones_of;
 use panels::Balance;
+use std::array;
 
 // 40h: value j of those that follow the mask, low byte first; the checksum is no part of a value.
+#[tactic(auto, using(crate::proofs::Values::value_is, crate::proofs::Values::no_value))]
 fn value_at(m: &[u8], j: usize) -> u16
     requires { j ≤ 8 }
     ensures { result ≡ get_or (values_of m.now) j 0 }
@@ -17,69 +18,43 @@ fn value_at(m: &[u8], j: usize) -> u16
     if m.len() < 9 + 2 * j {
         return 0;
     }
-    byte_at(m, 6 + 2 * j) as u16 + 256 * (byte_at(m, 7 + 2 * j) as u16)
+    u16::from_le_bytes([m[6 + 2 * j], m[7 + 2 * j]])
 }
 
-// 40h: a gain afterwards. The mask is given from this gain's bit up, with the number of ones below it.
-fn gain_after(m: &[u8], mask: u8, below: usize, old: u16) -> u16
-    requires { below ≤ 8 }
-    ensures { result ≡ put gain_of (said mask (get_or (values_of m.now) below 0)) old }
+// 40h: what is said of place k of the mask; the ones below its bit say which value is meant.
+#[tactic(auto, using(crate::proofs::Decode::decode_at))]
+fn said(m: &[u8], mask: u8, k: usize) -> Option<u16>
+    requires { k < 6 }
+    ensures { result ≡ get_or (decode 6 mask (values_of m.now)) k None }
 {
-    if mask % 2 != 1 {
-        return old;
+    if (mask >> k) % 2 != 1 {
+        return None;
     }
-    value_at(m, below) % 4096
+    Some(value_at(m, ones_of(mask % (1 << k))))
+}
+
+// "A gain is taken modulo 4096."
+fn gain_of(v: u16) -> u16
+    ensures { result ≡ gain_of v }
+{
+    v % 4096
 }
 
 // "A bias is taken modulo 2048, and 1024 or more has 2048 subtracted."
 fn bias_of(v: u16) -> i16
     ensures { result ≡ bias_of v }
 {
-    let r = v % 2048;
-    if r < 1024 {
-        return r as i16;
-    }
-    0 - ((2048 - r) as i16)
-}
-
-// 40h: a bias afterwards.
-fn bias_after(m: &[u8], mask: u8, below: usize, old: i16) -> i16
-    requires { below ≤ 8 }
-    ensures { result ≡ put bias_of (said mask (get_or (values_of m.now) below 0)) old }
-{
-    if mask % 2 != 1 {
-        return old;
-    }
-    bias_of(value_at(m, below))
-}
-
-// 40h: the gains afterwards.
-fn gains_after(m: &[u8], mask: u8, g: [u16; 3]) -> [u16; 3]
-    ensures { result ≡ puts gain_of (take 3 (decode 6 mask (values_of m.now))) g }
-{
-    let red = gain_after(m, mask, 0, g[0]);
-    let green = gain_after(m, mask / 2, ones_of(mask % 2), g[1]);
-    let blue = gain_after(m, mask / 4, ones_of(mask % 4), g[2]);
-    [red, green, blue]
-}
-
-// 40h: the biases afterwards.
-fn biases_after(m: &[u8], mask: u8, z: [i16; 3]) -> [i16; 3]
-    ensures { result ≡ puts bias_of (drop 3 (decode 6 mask (values_of m.now))) z }
-{
-    let red = bias_after(m, mask / 8, ones_of(mask % 8), z[0]);
-    let green = bias_after(m, mask / 16, ones_of(mask % 16), z[1]);
-    let blue = bias_after(m, mask / 32, ones_of(mask % 32), z[2]);
-    [red, green, blue]
+    let r = (v % 2048) as i16;
+    if r < 1024 { r } else { r - 2048 }
 }
 
 // 40h carried out.
+#[tactic(auto, unfolding(crate::specs::Levels::balanced_by))]
 pub fn rebalance(m: &[u8], mask: u8, b: Balance) -> Balance
     ensures { result ≡ balanced_by mask (values_of m.now) b }
 {
-    let g = b.gains;
-    let z = b.biases;
-    let gains = gains_after(m, mask, g);
-    let biases = biases_after(m, mask, z);
-    Balance { gains, biases }
+    Balance {
+        gains: array::from_fn(|k| said(m, mask, k).map_or(b.gains[k], gain_of)),
+        biases: array::from_fn(|k| said(m, mask, 3 + k).map_or(b.biases[k], bias_of)),
+    }
 }

@@ -8,7 +8,7 @@ ghost use Rattle.rs232c_tells.specs.Texts.{frame_of, balances_block, bytes_of, b
 
 use octets::lay;
 use panels::{Balance, WRecord};
-use rs232c_asks::Order;
+use rs232c_asks::{Order, Which};
 use settings::REMOTE;
 use sums::sum_of;
 
@@ -21,71 +21,64 @@ const STATE: u8 = 0x7E;
 
 const BALANCES: u8 = 0x71;
 
-// Three numbers: R, G, B.
-#[derive(Clone, Copy)]
-pub struct Three {
-    pub r: u16,
-    pub g: u16,
-    pub b: u16,
-}
-
 // What is sent back, and to whom.
 #[derive(Clone, Copy)]
 pub enum Reply {
-    Silent,
-    Ack(u8),
-    Nak(u8),
-    State(u8, u8),
-    Balances(u8, u8, Three),
+    Ack {
+        to: u8,
+    },
+    Nak {
+        to: u8,
+    },
+    // 7Eh: REMOTE, which is 1 where it is ON
+    State {
+        to: u8,
+        remote: u8,
+    },
+    // 71h: R, G, B
+    Balances {
+        to: u8,
+        which: Which,
+        values: [u16; 3],
+    },
 }
 
 // The eleven bits of a bias.
+#[tactic(auto, unfolding(crate::specs::Texts::bias_bits))]
 fn bias_bits(z: i16) -> u16
     ensures { result ≡ bias_bits z }
 {
-    if 0 <= z {
-        return (z as u16) % 2048;
-    }
-    let y = 0 - (z + 1);
-    2047 - (y as u16) % 2048
+    z.cast_unsigned() % 2048
 }
 
 // 61h: the three gains, or the three biases.
-fn sense(which: u8, b: Balance) -> Three
+#[tactic(auto, unfolding(crate::specs::Texts::sensed))]
+fn sense(which: Which, b: Balance) -> [u16; 3]
     ensures { result ≡ sensed which b }
 {
-    if which == 1 {
-        let g = b.gains;
-        return Three {
-            r: g[0] % 4096,
-            g: g[1] % 4096,
-            b: g[2] % 4096,
-        };
-    }
-    let z = b.biases;
-    Three {
-        r: bias_bits(z[0]),
-        g: bias_bits(z[1]),
-        b: bias_bits(z[2]),
+    match which {
+        Which::Gains => b.gains.map(|g| g % 4096),
+        Which::Biases => b.biases.map(bias_bits),
     }
 }
 
 // What is sent back for an order, from the record as it was.
+#[tactic(auto, unfolding(crate::specs::Texts::reply_to))]
 pub fn reply_to(source: u8, o: Order, w: WRecord) -> Reply
     ensures { result ≡ reply_to source o w }
 {
+    let to = source;
     match o {
-        Order::Config(_, _) => Reply::Ack(source),
-        Order::Select(_) => Reply::Ack(source),
-        Order::Levels(_) => Reply::Ack(source),
-        Order::Sense(which) => {
-            let b = w.balance;
-            Reply::Balances(source, which, sense(which, b))
-        }
-        Order::Remote => {
-            let settings = w.settings;
-            Reply::State(source, settings[REMOTE])
-        }
+        Order::Config(..) | Order::Select(_) | Order::Levels(_) => Reply::Ack { to },
+        Order::Sense(which) => Reply::Balances {
+            to,
+            which,
+            values: sense(which, w.balance),
+        },
+        Order::Remote => Reply::State {
+            to,
+            remote: w.settings[REMOTE],
+        },
     }
 }
 
@@ -96,50 +89,44 @@ fn put_frame(to: u8, block: &[u8], area: &mut [u8]) -> usize
     ensures { Sent (frame_of to block.now) result area.old area.new }
 {
     let n = block.len();
-    let count = 2 + n as u8;
-    let sum = count as u32 + to as u32 + 1 + sum_of(block) as u32;
-    let closing = ((256 - sum % 256) % 256) as u8;
-    let head = [2, count, to, 1];
-    let foot = [closing];
+    let head = [2, 2 + n as u8, to, 1];
+    let sum = sum_of(&head[1..]).wrapping_add(sum_of(block));
     lay(area, 0, &head);
     lay(area, 4, block);
-    lay(area, 4 + n, &foot);
+    lay(area, 4 + n, &[sum.wrapping_neg()]);
     5 + n
 }
 
-// 71h.
-fn put_balances(to: u8, which: u8, v: Three, area: &mut [u8]) -> usize
-    requires { 13 ≤ length area.old }
-    ensures { Sent (frame_of to (balances_block which v)) result area.old area.new }
+// 71h: the byte that was asked for, then R, G, B.
+fn balances_block(which: Which, values: [u16; 3]) -> [u8; 8]
+    ensures { result ≡ balances_block which values }
 {
-    let block = [
-        BALANCES,
-        which,
-        (v.r % 256) as u8,
-        (v.r / 256) as u8,
-        (v.g % 256) as u8,
-        (v.g / 256) as u8,
-        (v.b % 256) as u8,
-        (v.b / 256) as u8,
-    ];
-    put_frame(to, &block, area)
+    let r = values[0].to_le_bytes();
+    let g = values[1].to_le_bytes();
+    let b = values[2].to_le_bytes();
+    [BALANCES, which as u8, r[0], r[1], g[0], g[1], b[0], b[1]]
 }
 
 // The reply's bytes at the front of an area that has room for every reply, and their number.
+#[tactic(auto, unfolding(crate::specs::Texts::bytes_of))]
 fn put_reply(reply: Reply, area: &mut [u8]) -> usize
     requires { 13 ≤ length area.old }
     ensures { Sent (bytes_of reply) result area.old area.new }
 {
     match reply {
-        Reply::Silent => 0,
-        Reply::Ack(to) => put_frame(to, &[ACK], area),
-        Reply::Nak(to) => put_frame(to, &[NAK], area),
-        Reply::State(to, on) => put_frame(to, &[STATE, on], area),
-        Reply::Balances(to, which, v) => put_balances(to, which, v, area),
+        Reply::Ack { to } => put_frame(to, &[ACK], area),
+        Reply::Nak { to } => put_frame(to, &[NAK], area),
+        Reply::State { to, remote } => put_frame(to, &[STATE, remote], area),
+        Reply::Balances { to, which, values } => put_frame(
+            to,
+            &balances_block(which, values),
+            area,
+        ),
     }
 }
 
 // The reply's bytes at the area's front, where it has room for the longest reply, and their number.
+#[tactic(auto, using(crate::proofs::Fitting::none_fits, crate::proofs::Fitting::all_fits))]
 pub fn send(reply: Reply, area: &mut [u8]) -> usize
     ensures { Sent (fitting (length area.old) (bytes_of reply)) result area.old area.new }
 {
