@@ -8,19 +8,18 @@ use lib.Dec.{eqb}
 use lib.ListN.{length}
 use native.Mathlib.Omega.{arith}
 use Rattle.panels.specs.declared.WRecord.{WRecord}
-use Rattle.rs232c_asks.specs.Asks.{if_good, config_command, select_command, levels_command}
+use Rattle.rs232c_asks.specs.Asks.{if_good, ordered, config_command, select_command, levels_command}
 use Rattle.rs232c_asks.specs.Commands.{connector_good, preset_good, config_good, select_good}
 use Rattle.rs232c_levels.specs.Levels.{decode, balanced_by}
 use Rattle.rs232c_inputs.specs.Inputs.{used_after, preset_after, on_after}
 use Rattle.rs232c_tells.specs.Texts.{reply_to}
 use Rattle.rs232c.specs.Orders.{carried}
-use Rattle.rs232c.specs.Replies.{turned}
+use Rattle.rs232c.specs.Replies.{replied}
 use Rattle.rs232c_asks.specs.declared.Order.{Order}
 use Rattle.rs232c_asks.specs.declared.Order.TheVariants.{Config, Select, Levels}
 
 -- two orders that do the same and are answered the same: so are the commands that they are, where they are good alike
-same_turn : (good : Bool) (s : ℕ) (o o' : Order) (vs : List ℕ) (w : WRecord) → carried o vs w ≡ carried o' vs w → reply_to s o w ≡ reply_to s o' w → turned (if_good good s o) vs w ≡ turned (if_good good s o') vs w
-unfolding turned
+same_turn : (good : Bool) (s : ℕ) (o o' : Order) (vs : List ℕ) (w : WRecord) → carried o vs w ≡ carried o' vs w → reply_to s o w ≡ reply_to s o' w → replied s (ordered (if_good good o)) vs w ≡ replied s (ordered (if_good good o')) vs w
 same_turn true s o o' vs w p q = rw (p, q)
 same_turn false s o o' vs w p q = refl
 
@@ -46,7 +45,7 @@ module _ (marks byte : ℕ) where
   unfolding carried used_after preset_after
   config_done_by_bits vs w = rw (connector_mark, preset_mark, connector_bits, preset_bits)
 
-  pub config_undefined : (s : ℕ) (vs : List ℕ) (w : WRecord) → turned (config_command s (marks % 4 ∷ byte % 128 ∷ [])) vs w ≡ turned (config_command s (marks ∷ byte ∷ [])) vs w
+  pub config_undefined : (s : ℕ) (vs : List ℕ) (w : WRecord) → replied s (ordered (config_command (marks % 4 ∷ byte % 128 ∷ []))) vs w ≡ replied s (ordered (config_command (marks ∷ byte ∷ []))) vs w
   unfolding config_command reply_to
   config_undefined s vs w = rw config_asked_by_bits (same_turn (config_good marks byte) s (Config (marks % 4) (byte % 128)) (Config marks byte) vs w (config_done_by_bits vs w) refl)
 
@@ -66,7 +65,7 @@ module _ (byte : ℕ) where
   unfolding carried on_after
   select_done_by_bits vs w = rw (selected_bits, act_bits)
 
-  pub select_undefined : (s : ℕ) (vs : List ℕ) (w : WRecord) → turned (select_command s (byte % 64 ∷ [])) vs w ≡ turned (select_command s (byte ∷ [])) vs w
+  pub select_undefined : (s : ℕ) (vs : List ℕ) (w : WRecord) → replied s (ordered (select_command (byte % 64 ∷ []))) vs w ≡ replied s (ordered (select_command (byte ∷ []))) vs w
   unfolding select_command reply_to
   select_undefined s vs w = rw select_asked_by_bits (same_turn (select_good byte) s (Select (byte % 64)) (Select byte) vs w (select_done_by_bits vs w) refl)
 
@@ -102,6 +101,6 @@ module _ (mask : ℕ) where
   unfolding carried balanced_by
   levels_done_by_bits vs w = rw (decoded vs)
 
-  pub levels_undefined : (s : ℕ) (bytes vs : List ℕ) (w : WRecord) → turned (levels_command s (mask % 64 ∷ bytes)) vs w ≡ turned (levels_command s (mask ∷ bytes)) vs w
+  pub levels_undefined : (s : ℕ) (bytes vs : List ℕ) (w : WRecord) → replied s (ordered (levels_command (mask % 64 ∷ bytes))) vs w ≡ replied s (ordered (levels_command (mask ∷ bytes))) vs w
   unfolding levels_command reply_to
   levels_undefined s bytes vs w = rw levels_count_by_bits (same_turn (eqb (length (mask ∷ bytes)) (1 + 2 * ones (mask % 64))) s (Levels (mask % 64)) (Levels mask) vs w (levels_done_by_bits vs w) refl)

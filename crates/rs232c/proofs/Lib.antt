@@ -5,4 +5,5 @@ mod Examples
 pub mod Validity
 pub mod Refusals
 pub mod Stays
+pub mod Doors
 pub mod Exact

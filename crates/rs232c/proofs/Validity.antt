@@ -8,6 +8,8 @@ use lib.Dec.{eqb, ltb, leb, lit≤}
 use lib.IntN.{pos, negsuc}
 use lib.ListN.{get_or, set, replicate, take, drop}
 use borrow.Author.Tests.{le-leb, ltb-true, ltb-false}
+use Rattle.std.specs.Prelude.{Some, None, Result, Ok, Err}
+use Rattle.terms.specs.declared.Answer.{Answer}
 use Rattle.laws.specs.Lists.{every, listed, within}
 use Rattle.laws.proofs.Conditions.{and_first, and_second, and_both}
 use Rattle.laws.proofs.Lists.{within_set}
@@ -19,17 +21,15 @@ use Rattle.panels.proofs.Ranges.{InRange, parts, whole}
 use Rattle.panels.specs.declared.Inputs.{Inputs}
 use Rattle.panels.specs.declared.Balance.{Balance}
 use Rattle.panels.specs.declared.WRecord.{WRecord}
-use Rattle.rs232c_asks.specs.Asks.{code_of, data_of, heard_of, values_of}
-use Rattle.rs232c_asks.proofs.Known.{Known, heard_known}
-use Rattle.rs232c_levels.specs.Levels.{Say, silent, say, gain_of, bias_of, puts, decode, balanced_by}
+use Rattle.rs232c_asks.specs.Asks.{code_of, data_of, Heard, heard_of, values_of}
+use Rattle.rs232c_asks.proofs.Known.{KnownBy, KnownOrder, Known, heard_known}
+use Rattle.rs232c_levels.specs.Levels.{Say, gain_of, bias_of, puts, decode, balanced_by}
 use Rattle.rs232c.specs.Orders.{carried}
 use Rattle.rs232c_inputs.specs.Inputs.{place_of, used_after, preset_after, configured_by, turned_off, on_after, selected_by}
 use Rattle.rs232c_asks.specs.Commands.{connector_marked, preset_marked, connector_of, preset_of, connector_good, preset_good, config_good, act_of}
-use Rattle.rs232c.specs.Replies.{turned, turn_of}
+use Rattle.rs232c.specs.Replies.{replied, turned, turn_of}
 use Rattle.rs232c_asks.specs.declared.Order.{Order}
 use Rattle.rs232c_asks.specs.declared.Order.TheVariants.{Config, Select, Levels, Sense, Remote}
-use Rattle.rs232c_asks.specs.declared.Heard.{Heard}
-use Rattle.rs232c_asks.specs.declared.Heard.TheVariants.{Refused, Broken, NotUnderstood, Understood}
 
 -- ---- the inputs
 
@@ -73,8 +73,8 @@ on_within byte on h = go (eqb (act_of byte) 1) (eqb (act_of byte) 2) (every (eqb
 puts_kept : {A : Type 0} (f : ℕ → A) (ok : A → Bool) (ss : List Say) (l : List A) → ((v : ℕ) → ok (f v) ≡ true) → every ok l ≡ true → every ok (puts f ss l) ≡ true
 puts_kept f ok ss [] g e = refl
 puts_kept f ok [] (x ∷ l) g e = e
-puts_kept f ok (silent ∷ ss) (x ∷ l) g e = and_both (ok x) (every ok (puts f ss l)) (and_first (ok x) (every ok l) e) (puts_kept f ok ss l g (and_second (ok x) (every ok l) e))
-puts_kept f ok (say v ∷ ss) (x ∷ l) g e = and_both (ok (f v)) (every ok (puts f ss l)) (g v) (puts_kept f ok ss l g (and_second (ok x) (every ok l) e))
+puts_kept f ok (None ∷ ss) (x ∷ l) g e = and_both (ok x) (every ok (puts f ss l)) (and_first (ok x) (every ok l) e) (puts_kept f ok ss l g (and_second (ok x) (every ok l) e))
+puts_kept f ok (Some v ∷ ss) (x ∷ l) g e = and_both (ok (f v)) (every ok (puts f ss l)) (g v) (puts_kept f ok ss l g (and_second (ok x) (every ok l) e))
 
 gain_ok : (v : ℕ) → ok_gain (gain_of v) ≡ true
 unfolding ok_gain
@@ -114,20 +114,22 @@ levels_ok mask vs b e =
     (puts_kept gain_of ok_gain (take 3 (decode 6 mask vs)) b.gains gain_ok (and_first (every ok_gain b.gains) (every ok_bias b.biases) e))
     (puts_kept bias_of ok_bias (drop 3 (decode 6 mask vs)) b.biases bias_ok (and_second (every ok_gain b.gains) (every ok_bias b.biases) e))
 
-carried_ok : (code : ℕ) (bytes : List ℕ) (s : ℕ) (o : Order) (vs : List ℕ) (w : WRecord) → Known code bytes (Understood s o) → InRange w → InRange (carried o vs w)
+carried_ok : (code : ℕ) (bytes : List ℕ) (o : Order) (vs : List ℕ) (w : WRecord) → KnownBy code bytes o → InRange w → InRange (carried o vs w)
 unfolding carried
-carried_ok code bytes s (Config marks byte) vs w k r = record { settings_ok = r.settings_ok; shifts_ok = r.shifts_ok; inputs_ok = config_ok marks byte w.inputs k.2 r.inputs_ok; balance_ok = r.balance_ok }
-carried_ok code bytes s (Select byte) vs w k r = record { settings_ok = r.settings_ok; shifts_ok = r.shifts_ok; inputs_ok = select_ok byte w.inputs r.inputs_ok; balance_ok = r.balance_ok }
-carried_ok code bytes s (Levels mask) vs w k r = record { settings_ok = r.settings_ok; shifts_ok = r.shifts_ok; inputs_ok = r.inputs_ok; balance_ok = levels_ok mask vs w.balance r.balance_ok }
-carried_ok code bytes s (Sense which) vs w k r = r
-carried_ok code bytes s Remote vs w k r = r
+carried_ok code bytes (Config marks byte) vs w k r = record { settings_ok = r.settings_ok; shifts_ok = r.shifts_ok; inputs_ok = config_ok marks byte w.inputs k.2 r.inputs_ok; balance_ok = r.balance_ok }
+carried_ok code bytes (Select byte) vs w k r = record { settings_ok = r.settings_ok; shifts_ok = r.shifts_ok; inputs_ok = select_ok byte w.inputs r.inputs_ok; balance_ok = r.balance_ok }
+carried_ok code bytes (Levels mask) vs w k r = record { settings_ok = r.settings_ok; shifts_ok = r.shifts_ok; inputs_ok = r.inputs_ok; balance_ok = levels_ok mask vs w.balance r.balance_ok }
+carried_ok code bytes (Sense which) vs w k r = r
+carried_ok code bytes Remote vs w k r = r
+
+replied_ok : (code : ℕ) (bytes : List ℕ) (s : ℕ) (o : Result Order Answer) (vs : List ℕ) (w : WRecord) → KnownOrder code bytes o → InRange w → InRange (replied s o vs w).after
+replied_ok code bytes s (Ok o) vs w k r = carried_ok code bytes o vs w k r
+replied_ok code bytes s (Err a) vs w k r = r
 
 turned_ok : (code : ℕ) (bytes : List ℕ) (h : Heard) (vs : List ℕ) (w : WRecord) → Known code bytes h → InRange w → InRange (turned h vs w).after
 unfolding turned
-turned_ok code bytes (Refused a) vs w k r = r
-turned_ok code bytes (Broken s p) vs w k r = r
-turned_ok code bytes (NotUnderstood s) vs w k r = r
-turned_ok code bytes (Understood s o) vs w k r = carried_ok code bytes s o vs w k r
+turned_ok code bytes (Err a) vs w k r = r
+turned_ok code bytes (Ok x) vs w k r = replied_ok code bytes x.source x.order vs w k r
 
 -- a valid record stays valid, whatever the message and the area
 pub stays_valid : (room : ℕ) (m : List ℕ) (w : WRecord) → ok_w w ≡ true → ok_w (taken room (turn_of m) w).after ≡ true

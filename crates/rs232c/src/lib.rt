@@ -8,94 +8,55 @@ ghost use Rattle.rs232c.specs.Orders.{carried};
 ghost use Rattle.rs232c.specs.Replies.{turn_of};
 
 use panels::WRecord;
-use rs232c_asks::{Heard, Order, hear};
+use rs232c_asks::{Order, hear};
 use rs232c_inputs::{config, select};
 use rs232c_levels::rebalance;
 use rs232c_tells::{Reply, reply_to, send};
-use terms::Answer;
-
-// What a message did: the record after it, the answer, and the reply's length.
-#[derive(Clone, Copy)]
-pub struct Outcome {
-    pub after: WRecord,
-    pub answer: Answer,
-    pub len: usize,
-}
+use terms::{Answer, Outcome};
 
 // An order carried out on the record.
+#[tactic(auto, unfolding(crate::specs::Orders::carried))]
 fn carry(o: Order, m: &[u8], w: WRecord) -> WRecord
     ensures { result ≡ carried o (values_of m.now) w }
 {
     match o {
-        Order::Config(marks, byte) => {
-            let i = w.inputs;
-            let next = config(marks, byte, i);
-            let mut x = w;
-            x.inputs = next;
-            x
-        }
-        Order::Select(byte) => {
-            let i = w.inputs;
-            let next = select(byte, i);
-            let mut x = w;
-            x.inputs = next;
-            x
-        }
-        Order::Levels(mask) => {
-            let b = w.balance;
-            let next = rebalance(m, mask, b);
-            let mut x = w;
-            x.balance = next;
-            x
-        }
-        Order::Sense(_) => w,
-        Order::Remote => w,
+        Order::Config(marks, byte) => WRecord {
+            inputs: config(marks, byte, w.inputs),
+            ..w
+        },
+        Order::Select(byte) => WRecord {
+            inputs: select(byte, w.inputs),
+            ..w
+        },
+        Order::Levels(mask) => WRecord {
+            balance: rebalance(m, mask, w.balance),
+            ..w
+        },
+        Order::Sense(_) | Order::Remote => w,
     }
 }
 
-// A frame on the RS-232C port of a W panel.
-pub fn take_frame(w: WRecord, m: &[u8], area: &mut [u8]) -> Outcome
+// A frame on the RS-232C port of a W panel: an order is carried out and answered to its source, and NAK goes there in place of one.
+pub fn take_frame(w: WRecord, m: &[u8], area: &mut [u8]) -> Outcome<WRecord>
     ensures { Takes (turn_of m.now) w area.old result.after result.answer result.len area.new }
 {
     if area.len() < 512 {
-        return Outcome {
-            after: w,
-            answer: Answer::AreaTooSmall,
-            len: 0,
-        };
+        return Outcome::refused(w, Answer::AreaTooSmall);
     }
-    let ask = hear(m);
-    match ask {
-        Heard::Refused(answer) => Outcome {
+    let asked = match hear(m) {
+        Ok(asked) => asked,
+        Err(answer) => return Outcome::refused(w, answer),
+    };
+    match asked.order {
+        Ok(o) => Outcome {
+            after: carry(o, m, w),
+            answer: Answer::Done,
+            len: send(reply_to(asked.source, o, w), area),
+        },
+        Err(answer) => Outcome {
             after: w,
             answer,
-            len: 0,
+            len: send(Reply::Nak { to: asked.source }, area),
         },
-        Heard::Broken(source, part) => {
-            let len = send(Reply::Nak(source), area);
-            Outcome {
-                after: w,
-                answer: Answer::PartWrong(part),
-                len,
-            }
-        }
-        Heard::NotUnderstood(source) => {
-            let len = send(Reply::Nak(source), area);
-            Outcome {
-                after: w,
-                answer: Answer::NotUnderstood,
-                len,
-            }
-        }
-        Heard::Understood(source, o) => {
-            let next = carry(o, m, w);
-            let reply = reply_to(source, o, w);
-            let len = send(reply, area);
-            Outcome {
-                after: next,
-                answer: Answer::Done,
-                len,
-            }
-        }
     }
 }

@@ -13,7 +13,7 @@ use Rattle.terms.specs.declared.Answer.{Answer}
 use Rattle.terms.specs.declared.Answer.TheVariants.{WrongLength, NotForUs, NotUnderstood}
 use Rattle.terms.specs.declared.Part.{Part}
 use Rattle.terms.specs.declared.Part.TheVariants.{Request, Item, TooLong, NotMatching, Count, Checksum}
-use Rattle.rs232c_asks.specs.Asks.{count_of, source_of, code_of, data_of, is_foreign, count_wrong, sum_wrong, envelope_of, unless_wrong, command_of, order_of, Heard, from_source, understood, not_understood, broken, heard_of}
+use Rattle.rs232c_asks.specs.Asks.{count_of, source_of, code_of, data_of, is_foreign, count_wrong, sum_wrong, envelope_of, ordered, unless_wrong, command_of, order_of, Heard, from_source, understood, not_understood, broken, heard_of}
 use Rattle.rs232c_asks.specs.declared.Order.{Order}
 use Rattle.rs232c_asks.specs.declared.Asked.{Asked}
 
@@ -31,7 +31,7 @@ module _ (m : List ℕ) (long : 6 ≤ length m) (ours : is_foreign m ≡ false) 
   pub wrong_heard : (p : Part) → envelope_of m ≡ Err p → heard_of m ≡ broken (source_of m) p
   wrong_heard p = by_envelope (Err p)
 
-  pub good_heard : envelope_of m ≡ Ok tt → heard_of m ≡ from_source (source_of m) (unless_wrong (Ok tt) (command_of (code_of m) (data_of m)))
+  pub good_heard : envelope_of m ≡ Ok tt → heard_of m ≡ from_source (source_of m) (ordered (command_of (code_of m) (data_of m)))
   good_heard = by_envelope (Ok tt)
 
   -- each part alone, and behind the one before it
@@ -45,7 +45,7 @@ module _ (m : List ℕ) (long : 6 ≤ length m) (ours : is_foreign m ≡ false) 
 
 -- ---- behind the envelope a frame is understood or it is not
 
-abbrev JudgedOrder : Result Order Answer → Type 0
+abbrev pub JudgedOrder : Result Order Answer → Type 0
 JudgedOrder (Ok o) = Unit {0}
 JudgedOrder (Err a) = a ≡ NotUnderstood
 
@@ -54,10 +54,10 @@ abbrev pub Judged : Heard → Type 0
 Judged (Err a) = ⊥
 Judged (Ok x) = JudgedOrder x.order
 
-pub command_judged : (s code : ℕ) (bytes : List ℕ) → Judged (from_source s (unless_wrong (Ok tt) (command_of code bytes)))
+pub command_judged : (s code : ℕ) (bytes : List ℕ) → Judged (from_source s (ordered (command_of code bytes)))
 command_judged s code bytes = go (command_of code bytes)
   where
-    go : (o : Option Order) → JudgedOrder (unless_wrong (Ok tt) o)
+    go : (o : Option Order) → JudgedOrder (ordered o)
     go (Some o) = tt
     go None = refl
 

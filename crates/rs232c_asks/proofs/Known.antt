@@ -33,7 +33,7 @@ KnownBy code bytes (Sense which) = (code ≡ 0x61) × (bytes ≡ byte_of which �
 KnownBy code bytes Remote = (code ≡ 0x6e) × (bytes ≡ [])
 
 -- a refusal is 3 or 4, and what goes back to the source in place of an order 6, 13 or 14
-abbrev KnownOrder : ℕ → List ℕ → Result Order Answer → Type 0
+abbrev pub KnownOrder : ℕ → List ℕ → Result Order Answer → Type 0
 KnownOrder code bytes (Ok o) = KnownBy code bytes o
 KnownOrder code bytes (Err a) = listed (6 ∷ 13 ∷ 14 ∷ []) (number_of a) ≡ true
 
@@ -128,7 +128,7 @@ MarkedBy bytes (Levels mask) = first bytes ≡ mask
 MarkedBy bytes (Sense which) = Unit {0}
 MarkedBy bytes Remote = Unit {0}
 
-abbrev MarkedOrder : List ℕ → Result Order Answer → Type 0
+abbrev pub MarkedOrder : List ℕ → Result Order Answer → Type 0
 MarkedOrder bytes (Ok o) = MarkedBy bytes o
 MarkedOrder bytes (Err a) = Unit {0}
 

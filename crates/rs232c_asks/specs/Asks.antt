@@ -101,11 +101,15 @@ command_of code bytes =
 
 -- ---- what a message asks
 
+-- the order of a command block, and else 6
+abbrev pub ordered : Option Order → Result Order Answer
+ordered (Some o) = Ok o
+ordered None = Err NotUnderstood
+
 -- "at the old place of 5": what lies in a good envelope is heard, and of any other the part that is wrong
 abbrev pub unless_wrong : Result (Unit {0}) Part → Option Order → Result Order Answer
 unless_wrong (Err p) o = Err (PartWrong p)
-unless_wrong (Ok u) (Some o) = Ok o
-unless_wrong (Ok u) None = Err NotUnderstood
+unless_wrong (Ok u) o = ordered o
 
 unfoldable pub order_of : List ℕ → Result Order Answer
 order_of m = unless_wrong (envelope_of m) (command_of (code_of m) (data_of m))
