@@ -12,96 +12,62 @@ ghost use Rattle.laws.specs.Numbers.{number, in_bytes};
 pub fn same_bytes(a: &[u8], b: &[u8]) -> bool
     ensures { result ≡ same a.now b.now }
 {
-    if a.len() != b.len() {
-        return false;
-    }
-    let mut i = 0;
-    while i < a.len() {
-        if a[i] != b[i] {
-            return false;
-        }
-        i += 1;
-    }
-    true
+    a == b
 }
 
 // Whether every byte is b.
 pub fn all_are(s: &[u8], b: u8) -> bool
     ensures { result ≡ every (eqb b) s.now }
 {
-    let mut i = 0;
-    while i < s.len() {
-        if s[i] != b {
-            return false;
-        }
-        i += 1;
-    }
-    true
+    s.iter().all(|x| *x == b)
 }
 
 // The number that two bytes write, high byte first.
 pub fn number2(high: u8, low: u8) -> u16
     ensures { result ≡ number (high ∷ low ∷ []) }
 {
-    high as u16 * 256 + low as u16
+    u16::from_be_bytes([high, low])
 }
 
 // The number that four bytes write, high byte first.
 pub fn number4(a: u8, b: u8, c: u8, d: u8) -> u32
     ensures { result ≡ number (a ∷ b ∷ c ∷ d ∷ []) }
 {
-    a as u32 * 16777216 + b as u32 * 65536 + c as u32 * 256 + d as u32
+    u32::from_be_bytes([a, b, c, d])
 }
 
 // The two bytes that write a number.
 pub fn bytes2(v: u16) -> [u8; 2]
     ensures { result ≡ in_bytes 2 v }
 {
-    [(v / 256 % 256) as u8, (v % 256) as u8]
+    v.to_be_bytes()
 }
 
 // The four bytes that write a number.
 pub fn bytes4(v: u32) -> [u8; 4]
     ensures { result ≡ in_bytes 4 v }
 {
-    [
-        (v / 16777216 % 256) as u8,
-        (v / 65536 % 256) as u8,
-        (v / 256 % 256) as u8,
-        (v % 256) as u8,
-    ]
+    v.to_be_bytes()
 }
 
 // Whether a number is among those listed.
 pub fn is_listed(numbers: &[u8], x: u8) -> bool
     ensures { result ≡ listed numbers.now x }
 {
-    let mut i = 0;
-    while i < numbers.len() {
-        if x == numbers[i] {
-            return true;
-        }
-        i += 1;
-    }
-    false
+    numbers.contains(&x)
 }
 
-// Whether each number is at most the bound at its place. Every place is asked, with no early return, so that the compiler can
-// ask many at once.
+// Whether each number is at most the bound at its place. Every place is asked, with no early return, so that the compiler can ask
+// many at once.
 pub fn are_within(numbers: &[u8], bounds: &[u8]) -> bool
     ensures { result ≡ within numbers.now bounds.now }
 {
-    let n = numbers.len();
-    if bounds.len() < n {
+    if bounds.len() < numbers.len() {
         return false;
     }
     let mut ok = true;
-    let mut i = 0;
-    while i < n {
-        if bounds[i] < numbers[i] {
-            ok = false;
-        }
-        i += 1;
+    for i in 0..numbers.len() {
+        ok = ok & (numbers[i] <= bounds[i]);
     }
     ok
 }
@@ -110,21 +76,14 @@ pub fn are_within(numbers: &[u8], bounds: &[u8]) -> bool
 pub fn byte_at(s: &[u8], i: usize) -> u8
     ensures { result ≡ get_or s.now i 0 }
 {
-    if i < s.len() {
-        return s[i];
-    }
-    0
+    s.get(i).copied().unwrap_or(0)
 }
 
 // Whether an area begins with the bytes given.
 pub fn begins_with(s: &[u8], front: &[u8]) -> bool
     ensures { result ≡ begins front.now s.now }
 {
-    let n = front.len();
-    if s.len() < n {
-        return false;
-    }
-    same_bytes(front, &s[..n])
+    s.starts_with(front)
 }
 
 // Lays bytes over an area from a place on; an area too short for them is left as it is.
@@ -137,11 +96,7 @@ pub fn lay(out: &mut [u8], at: usize, bytes: &[u8])
     if out.len() - bytes.len() < at {
         return;
     }
-    let mut i = 0;
-    while i < bytes.len() {
-        out[at + i] = bytes[i];
-        i += 1;
-    }
+    out[at..at + bytes.len()].copy_from_slice(bytes);
 }
 
 // The number of ones in a byte.

@@ -14,5 +14,5 @@ unbounded [] bs h = absurd (omega arith)
 unbounded (x ∷ l) [] h = refl
 unbounded (x ∷ l) (b ∷ bs) h = rw (unbounded l bs (omega arith)) (and-false (leb x b))
 
-pub returns-then-bounds-n : goal.returns-then-bounds-n
-returns-then-bounds-n c = sym (unbounded c.args.numbers.now c.args.bounds.now c.if-bounds-n.true)
+pub returns-then-bounds-numbers : goal.returns-then-bounds-numbers
+returns-then-bounds-numbers c = sym (unbounded c.args.numbers.now c.args.bounds.now c.if-bounds-numbers.true)

@@ -1,8 +1,7 @@
--- `bytes4` is the definition, byte for byte; the last byte's divisor is 1.
-use native.Mathlib.Nat.{div-one}
-use Rattle.laws.specs.Numbers.{in_bytes}
+-- `bytes4` is the library's writing.
+use Rattle.std.proofs.Common.{◌∙◌}
+use Rattle.laws.proofs.Library.{in_four_bytes}
 use Rattle.octets.proofs.bytes4.Goals as goal
 
 pub returns : goal.returns
-unfolding in_bytes
-returns c = rw div-one
+returns c = c.to_be_bytes.ensures ∙ in_four_bytes c.args.v

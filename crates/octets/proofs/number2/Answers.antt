@@ -1,8 +1,7 @@
--- `number2` is the definition's sum, each byte times a power of 256 that is computed.
-use native.Mathlib.Omega.{arith}
-use Rattle.laws.specs.Numbers.{number}
+-- `number2` is the library's reading.
+use Rattle.std.proofs.Common.{◌∙◌}
+use Rattle.laws.proofs.Library.{number_two}
 use Rattle.octets.proofs.number2.Goals as goal
 
 pub returns : goal.returns
-unfolding number
-returns c = omega arith
+returns c = c.from_be_bytes.ensures ∙ number_two c.args.high c.args.low

@@ -1,8 +1,7 @@
--- `number4` is the definition's sum, each byte times a power of 256 that is computed.
-use native.Mathlib.Omega.{arith}
-use Rattle.laws.specs.Numbers.{number}
+-- `number4` is the library's reading.
+use Rattle.std.proofs.Common.{◌∙◌}
+use Rattle.laws.proofs.Library.{number_four}
 use Rattle.octets.proofs.number4.Goals as goal
 
 pub returns : goal.returns
-unfolding number
-returns c = omega arith
+returns c = let a = c.args in c.from_be_bytes.ensures ∙ number_four a.a a.b a.c a.d
