@@ -14,6 +14,7 @@ use Rattle.laws.specs.Lists.{every}
 use Rattle.laws.proofs.Conditions.{choose}
 use Rattle.laws.proofs.Lists.{listed_every}
 use Rattle.laws.proofs.Numbers.{length_in_bytes}
+use Rattle.std.specs.Prelude.{Result, Ok as Done, Err as Failed}
 use Rattle.terms.specs.Answers.{number_of, answer_place}
 use Rattle.terms.specs.declared.Answer.{Answer}
 use Rattle.sums.specs.Sums.{sums_to_zero}
@@ -40,7 +41,7 @@ use Rattle.vmc_tells.proofs.Phrases.{numeral_short}
 use Rattle.rs232c.specs.Replies as serial
 use Rattle.rs232c_tells.specs.Texts as serialTexts
 use Rattle.rs232c_tells.specs.declared.Reply.{Reply as SerialReply}
-use Rattle.rs232c_tells.specs.declared.Reply.TheVariants.{Silent, Ack, Nak, State, Balances}
+use Rattle.rs232c_tells.specs.declared.Reply.TheVariants.{Ack, Nak, State, Balances}
 use Rattle.kjw.specs.Replies as frames
 use Rattle.kjw.proofs.Notices.{reply_length}
 use Rattle.sdcp_asks.specs.Asks.{heard_of, cast_of}
@@ -49,8 +50,7 @@ use Rattle.sdcp_asks.specs.declared.Heard.{Heard as PacketHeard}
 use Rattle.sdcp_asks.specs.declared.Heard.TheVariants as packetIs
 use Rattle.sdcp.specs.declared.Reply.{Reply as PacketReply}
 use Rattle.rs232c_asks.specs.Asks as serialAsks
-use Rattle.rs232c_asks.specs.declared.Heard.{Heard as SerialHeard}
-use Rattle.rs232c_asks.specs.declared.Heard.TheVariants as serialIs
+use Rattle.rs232c_asks.specs.declared.Order.{Order as SerialOrder}
 use Rattle.sdcp.specs.declared.Reply.TheVariants.{Silent as None, Ng, Ok}
 use Rattle.steps.specs.Messages.{Message, rs232c, kjw, tcp, udp, names}
 use Rattle.steps.specs.Step.{turn, back, passed, refused, door, panel_at, step}
@@ -371,18 +371,19 @@ listed_fits bytes =
 
 serial_fits : (r : SerialReply) → length (serialTexts.bytes_of r) ≤ 48
 unfolding serialTexts.bytes_of serialTexts.frame_of
-serial_fits Silent = omega arith
 serial_fits (Ack to) = omega arith
 serial_fits (Nak to) = omega arith
-serial_fits (State to on) = omega arith
+serial_fits (State to remote) = omega arith
 serial_fits (Balances to which v) = omega arith
 
-serial_turn_fits : (h : SerialHeard) (vs : List ℕ) (w : WRecord) → length (serial.turned h vs w).reply ≤ 48
+serial_reply_fits : (s : ℕ) (o : Result SerialOrder Answer) (vs : List ℕ) (w : WRecord) → length (serial.replied s o vs w).reply ≤ 48
+serial_reply_fits s (Done o) vs w = serial_fits (serialTexts.reply_to s o w)
+serial_reply_fits s (Failed a) vs w = serial_fits (Nak s)
+
+serial_turn_fits : (h : serialAsks.Heard) (vs : List ℕ) (w : WRecord) → length (serial.turned h vs w).reply ≤ 48
 unfolding serial.turned
-serial_turn_fits (serialIs.Refused a) vs w = omega arith
-serial_turn_fits (serialIs.Broken s p) vs w = serial_fits (Nak s)
-serial_turn_fits (serialIs.NotUnderstood s) vs w = serial_fits (Nak s)
-serial_turn_fits (serialIs.Understood s o) vs w = serial_fits (serialTexts.reply_to s o w)
+serial_turn_fits (Failed a) vs w = omega arith
+serial_turn_fits (Done x) vs w = serial_reply_fits x.source x.order vs w
 
 frame_fits : (m : List ℕ) (k : KRecord) → length (frames.turn_of m k).reply ≤ 48
 frame_fits m k =

@@ -14,8 +14,7 @@ use Rattle.terms.specs.Answers.{number_of}
 use Rattle.terms.specs.declared.Answer.TheVariants.{Done}
 use Rattle.terms.specs.declared.Part.{Part}
 use Rattle.terms.specs.declared.Part.TheVariants.{Request, Item, TooLong, NotMatching, Count, Checksum}
-use Rattle.terms.specs.declared.Envelope.{Envelope}
-use Rattle.terms.specs.declared.Envelope.TheVariants.{Good, Wrong}
+use Rattle.std.specs.Prelude.{None, Result, Ok, Err}
 use Rattle.panels.specs.Valid.{valid}
 use Rattle.panels.specs.declared.Panel.{Panel}
 use Rattle.panels.specs.declared.KRecord.{KRecord}
@@ -31,13 +30,12 @@ use Rattle.vmc_asks.specs.declared.Order as wordOrder
 use Rattle.rs232c_asks.specs.Asks as serialAsks
 use Rattle.rs232c_asks.proofs.Envelopes as serialEnvelopes
 use Rattle.rs232c_asks.specs.declared.Order as serialOrder
-use Rattle.rs232c_asks.specs.declared.Heard.TheVariants as serialIs
 use Rattle.rs232c_asks.specs.declared.Order.TheVariants.{Sense}
-use Rattle.rs232c_levels.specs.Levels.{Say, silent, put}
+use Rattle.rs232c_levels.specs.Levels.{Say, put}
 use Rattle.rs232c_tells.specs.Texts.{bytes_of}
-use Rattle.rs232c_tells.specs.declared.Three.{Three}
+use Rattle.rs232c_asks.specs.declared.Which.{Which}
 use Rattle.rs232c_tells.specs.declared.Reply.TheVariants.{Balances}
-use Rattle.rs232c.proofs.AskedBack.{three_of, place_at, range_of}
+use Rattle.rs232c.proofs.AskedBack.{place_at, range_of}
 use Rattle.rs232c.specs.Orders as serialOrders
 use Rattle.kjw_asks.specs.Asks as frameAsks
 use Rattle.kjw_sets.specs.declared.State.{State}
@@ -107,13 +105,13 @@ no_panel_let_in b (udp m) (no_panel k h x) skipped = is k
 
 -- ---- 9 to 14: what is said of a part, or of no part, is what the envelope is
 
-abbrev envelope_in : Message → Envelope
+abbrev envelope_in : Message → Result (Unit {0}) Part
 envelope_in (rs232c l m area) = serialAsks.envelope_of m
-envelope_in (kjw l m area) = Good
+envelope_in (kjw l m area) = Ok tt
 envelope_in (tcp l m area) = packetAsks.envelope_of m
 envelope_in (udp m) = packetAsks.envelope_of m
 
-serial_part : (m : List ℕ) (p : Part) → serialEnvelopes.FirstWrong m p → serialAsks.envelope_of m ≡ Wrong p
+serial_part : (m : List ℕ) (p : Part) → serialEnvelopes.FirstWrong m p → serialAsks.envelope_of m ≡ Err p
 unfolding serialAsks.envelope_of
 serial_part m Request w = absurd w
 serial_part m Item w = absurd w
@@ -122,7 +120,7 @@ serial_part m NotMatching w = absurd w
 serial_part m Count w = rw (ne_eqb (serialAsks.count_of m + 3) (length m) w)
 serial_part m (Checksum place) w = rw (eq-eqb (serialAsks.count_of m + 3) (length m) w.0, w.1, w.2)
 
-packet_part : (m : List ℕ) (p : Part) → packetEnvelopes.FirstWrong m p → packetAsks.envelope_of m ≡ Wrong p
+packet_part : (m : List ℕ) (p : Part) → packetEnvelopes.FirstWrong m p → packetAsks.envelope_of m ≡ Err p
 unfolding packetAsks.envelope_of
 packet_part m Request w = rw (ne_eqb (packetAsks.request_of m) 0 w)
 packet_part m Item w = rw (eq-eqb (packetAsks.request_of m) 0 w.0, ne_eqb (packetAsks.item_of m) 0xb000 w.1)
@@ -131,17 +129,17 @@ packet_part m NotMatching w = rw (eq-eqb (packetAsks.request_of m) 0 w.0, eq-eqb
 packet_part m Count w = absurd w
 packet_part m (Checksum place) w = absurd w
 
-pub part_is : (m : Message) (p : Part) → Broken m p → envelope_in m ≡ Wrong p
+pub part_is : (m : Message) (p : Part) → Broken m p → envelope_in m ≡ Err p
 part_is (rs232c l m area) p w = serial_part m p w
 part_is (kjw l m area) p w = absurd w
 part_is (tcp l m area) p w = packet_part m p w
 part_is (udp m) p w = packet_part m p w
 
-packet_whole : (m : List ℕ) → packetEnvelopes.Whole m → packetAsks.envelope_of m ≡ Good
+packet_whole : (m : List ℕ) → packetEnvelopes.Whole m → packetAsks.envelope_of m ≡ Ok tt
 unfolding packetAsks.envelope_of
 packet_whole m w = rw (eq-eqb (packetAsks.request_of m) 0 w.0, eq-eqb (packetAsks.item_of m) 0xb000 w.1, le-ltb 499 (packetAsks.data_length_of m) w.2, eq-eqb (packetAsks.data_length_of m) (length m - 13) w.3)
 
-pub whole_is : (m : Message) → Whole m → envelope_in m ≡ Good
+pub whole_is : (m : Message) → Whole m → envelope_in m ≡ Ok tt
 unfolding serialAsks.envelope_of
 whole_is (rs232c l m area) w = rw (eq-eqb (serialAsks.count_of m + 3) (length m) w.0, w.1)
 whole_is (kjw l m area) w = refl
@@ -160,7 +158,7 @@ clear_unclear (udp m) (o, e) f = false_true (ap packet_unclear (sym e ∙ f))
 
 pub carried_one : (m : Message) (p p' p'' : Panel) → Carried m p p' → Carried m p p'' → p' ≡ p''
 carried_one (rs232c l m area) p p' p'' (s, o, e, q) (t, o', f, r) =
-    let z : serialIs.Understood s o ≡ serialIs.Understood t o' = sym e ∙ f in
+    let z = (serialEnvelopes.same_heard (sym e ∙ f)).1 in
     let y : o ≡ o' = cc in
     q ∙ ap (λ (x : serialOrder.Order). with_w p (serialOrders.carried x (serialAsks.values_of m) p.w)) y ∙ sym r
 carried_one (kjw l m area) p p' p'' (o, e, q) (o', f, r) =
@@ -272,11 +270,11 @@ brings_back_is t = (t.tells.carries, t.ends_bare_holds, t.sets_again, t.leaves)
 pub sensed_later_is : {b b' : DisplayBox} {i : ℕ} {said : List Say}
     → SensedLater b b' i said
     → (ms : List Message) → spared (bears 0x40) i b' ms ≡ true
-    → (l s which : ℕ) (m area : List ℕ) → Reaches b (rs232c l m area) i → Reaches (run b' ms) (rs232c l m area) i
-    → serialAsks.heard_of m ≡ serialIs.Understood s (Sense which)
-    → (before : Three) × (behind : Three)
+    → (l s : ℕ) (which : Which) (m area : List ℕ) → Reaches b (rs232c l m area) i → Reaches (run b' ms) (rs232c l m area) i
+    → serialAsks.heard_of m ≡ serialAsks.understood s (Sense which)
+    → (before : List ℕ) × (behind : List ℕ)
     × ((step b (rs232c l m area)).back ≡ back_on area (bytes_of (Balances s which before)))
     × ((step (run b' ms) (rs232c l m area)).back ≡ back_on area (bytes_of (Balances s which behind)))
     × ((k : ℕ) → k < 3
-    → get_or (three_of behind) k 0 ≡ put (λ (v : ℕ). v % range_of which) (get_or said (place_at which k) silent) (get_or (three_of before) k 0))
+    → get_or behind k 0 ≡ put (λ (v : ℕ). v % range_of which) (get_or said (place_at which k) None) (get_or before k 0))
 sensed_later_is t ms n l s which m area r r' e = let x = t ms n l s which m area r r' e in (x.0, x.1, x.2, x.3, x.4.brings)

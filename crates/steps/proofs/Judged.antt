@@ -5,12 +5,14 @@ use mathlib.Core.Bool.{Bool, true, false, not, cond, ◌&&◌, ◌||◌}
 use mathlib.Core.List.{List, [], ◌∷◌}
 use lib.Dec.{eqb, ltb}
 use lib.ListN.{length, get_or, drop}
+use Rattle.std.specs.Prelude.{Option, Some, None, Result, Ok, Err}
 use Rattle.laws.specs.Bytes.{ascii, part, same}
 use Rattle.laws.specs.Lists.{every}
 use Rattle.laws.proofs.Conditions.{choose, false_true}
 use Rattle.terms.specs.Answers.{part_number, number_of}
+use Rattle.terms.specs.declared.Part.{Part}
 use Rattle.terms.specs.declared.Part.TheVariants.{Request, Item, TooLong, NotMatching, Count, Checksum}
-use Rattle.terms.specs.declared.Envelope.TheVariants.{Good, Wrong}
+use Rattle.terms.specs.declared.Answer.{Answer}
 use Rattle.terms.specs.declared.Answer.TheVariants.{WrongLength, NotForUs}
 use Rattle.panels.specs.declared.WRecord.{WRecord}
 use Rattle.panels.specs.declared.KRecord.{KRecord}
@@ -24,8 +26,6 @@ use Rattle.rs232c_asks.specs.Asks as serialAsks
 use Rattle.rs232c_asks.proofs.Envelopes as serialEnvelopes
 use Rattle.rs232c.specs.Replies as serial
 use Rattle.rs232c_asks.specs.declared.Order as serialOrder
-use Rattle.rs232c_asks.specs.declared.Heard as serialHeard
-use Rattle.rs232c_asks.specs.declared.Heard.TheVariants as serialIs
 use Rattle.sdcp_asks.specs.Asks as packetAsks
 use Rattle.sdcp.specs.Replies as packets
 use Rattle.sdcp_asks.specs.declared.Heard as packetHeard
@@ -62,11 +62,13 @@ own_checks = drop 2 checks
 -- ---- RS-232C
 
 -- what was heard is not understood
-abbrev pub serial_unclear : serialHeard.Heard → Bool
-serial_unclear (serialIs.Refused a) = false
-serial_unclear (serialIs.Broken s p) = false
-serial_unclear (serialIs.NotUnderstood s) = true
-serial_unclear (serialIs.Understood s o) = false
+abbrev pub unclear_order : Result serialOrder.Order Answer → Bool
+unclear_order (Ok o) = false
+unclear_order (Err a) = eqb (number_of a) 6
+
+abbrev pub serial_unclear : serialAsks.Heard → Bool
+serial_unclear (Err a) = false
+serial_unclear (Ok x) = unclear_order x.order
 
 -- "Under 6 bytes: 3. First byte not 02h, destination not 01h, or source outside 41h to 7Fh: 4.", then document 02, §8, "13 byte count, 14 checksum",
 -- and 6 where the command is not understood
@@ -75,63 +77,65 @@ serial_conditions m =
     ltb (length m) 6 ∷ serialAsks.is_foreign m ∷ false ∷ false ∷ false ∷ false ∷ serialAsks.count_wrong m ∷ serialAsks.sum_wrong m ∷ false
     ∷ serial_unclear (serialAsks.heard_of m) ∷ []
 
-abbrev serial_number : serialHeard.Heard → ℕ
-serial_number (serialIs.Refused a) = number_of a
-serial_number (serialIs.Broken s p) = part_number p
-serial_number (serialIs.NotUnderstood s) = 6
-serial_number (serialIs.Understood s o) = 0
+abbrev order_number : Result serialOrder.Order Answer → ℕ
+order_number (Ok o) = 0
+order_number (Err a) = number_of a
 
-serial_number_lem : (h : serialHeard.Heard) → serialEnvelopes.Judged h → serial_number h ≡ cond (serial_unclear h) 6 0
-serial_number_lem (serialIs.Refused a) j = absurd j
-serial_number_lem (serialIs.Broken s p) j = absurd j
-serial_number_lem (serialIs.NotUnderstood s) j = refl
-serial_number_lem (serialIs.Understood s o) j = refl
+abbrev serial_number : serialAsks.Heard → ℕ
+serial_number (Err a) = number_of a
+serial_number (Ok x) = order_number x.order
 
 -- the ladder of what is heard of a frame, by its conditions
-abbrev serial_rungs : Bool → Bool → Bool → Bool → ℕ → ℕ → serialHeard.Heard → serialHeard.Heard
-serial_rungs a b c d s at h = cond a (serialIs.Refused WrongLength) (cond b (serialIs.Refused NotForUs) (serialAsks.unless_wrong s (cond c (Wrong Count) (cond d (Wrong (Checksum at)) Good)) h))
+abbrev serial_rungs : Bool → Bool → Bool → Bool → ℕ → ℕ → Option serialOrder.Order → serialAsks.Heard
+serial_rungs a b c d s at o = cond a (Err WrongLength) (cond b (Err NotForUs) (serialAsks.from_source s (serialAsks.unless_wrong (cond c (Err Count) (cond d (Err (Checksum at)) (Ok tt))) o)))
 
 serial_heard : (m : List ℕ) → serial_number (serialAsks.heard_of m) ≡ first_of own_checks (serial_conditions m)
-unfolding serialAsks.heard_of serialAsks.envelope_of
-serial_heard m = go (ltb (length m) 6) (serialAsks.is_foreign m) (serialAsks.count_wrong m) (serialAsks.sum_wrong m) (serialAsks.source_of m) (length m - 1) _ (serialEnvelopes.command_judged _ _ _)
+unfolding serialAsks.heard_of serialAsks.order_of serialAsks.envelope_of
+serial_heard m = go (ltb (length m) 6) (serialAsks.is_foreign m) (serialAsks.count_wrong m) (serialAsks.sum_wrong m) (serialAsks.source_of m) (length m - 1) (serialAsks.command_of (serialAsks.code_of m) (serialAsks.data_of m))
   where
-    go : (a b c d : Bool) (s at : ℕ) (h : serialHeard.Heard) → serialEnvelopes.Judged h → serial_number (serial_rungs a b c d s at h) ≡ first_of own_checks (a ∷ b ∷ false ∷ false ∷ false ∷ false ∷ c ∷ d ∷ false ∷ serial_unclear (serial_rungs a b c d s at h) ∷ [])
-    go true b c d s at h j = refl
-    go false true c d s at h j = refl
-    go false false true d s at h j = refl
-    go false false false true s at h j = refl
-    go false false false false s at h j = serial_number_lem h j
+    go : (a b c d : Bool) (s at : ℕ) (o : Option serialOrder.Order) → serial_number (serial_rungs a b c d s at o) ≡ first_of own_checks (a ∷ b ∷ false ∷ false ∷ false ∷ false ∷ c ∷ d ∷ false ∷ serial_unclear (serial_rungs a b c d s at o) ∷ [])
+    go true b c d s at o = refl
+    go false true c d s at o = refl
+    go false false true d s at o = refl
+    go false false false true s at o = refl
+    go false false false false s at (Some o) = refl
+    go false false false false s at None = refl
 
-serial_turned : (h : serialHeard.Heard) (vs : List ℕ) (w : WRecord) → number_of (serial.turned h vs w).answer ≡ serial_number h
+serial_replied : (s : ℕ) (o : Result serialOrder.Order Answer) (vs : List ℕ) (w : WRecord) → number_of (serial.replied s o vs w).answer ≡ order_number o
+serial_replied s (Ok o) vs w = refl
+serial_replied s (Err a) vs w = refl
+
+serial_turned : (h : serialAsks.Heard) (vs : List ℕ) (w : WRecord) → number_of (serial.turned h vs w).answer ≡ serial_number h
 unfolding serial.turned
-serial_turned (serialIs.Refused a) vs w = refl
-serial_turned (serialIs.Broken s p) vs w = refl
-serial_turned (serialIs.NotUnderstood s) vs w = refl
-serial_turned (serialIs.Understood s o) vs w = refl
+serial_turned (Err a) vs w = refl
+serial_turned (Ok x) vs w = serial_replied x.source x.order vs w
 
 -- the number of the answer to a frame
 pub serial_answered : (m : List ℕ) (w : WRecord) → number_of (serial.turn_of m w).answer ≡ first_of own_checks (serial_conditions m)
 serial_answered m w = serial_turned (serialAsks.heard_of m) (serialAsks.values_of m) w ∙ serial_heard m
 
 -- condition 6 in words of what was heard; past the envelope nothing is refused or broken, so without it an order is understood
-pub serial_unclear_lem : (m : List ℕ) → serial_unclear (serialAsks.heard_of m) ≡ true → (s : ℕ) × (serialAsks.heard_of m ≡ serialIs.NotUnderstood s)
-serial_unclear_lem m = go (serialAsks.heard_of m)
+pub serial_unclear_lem : (m : List ℕ) → serial_unclear (serialAsks.heard_of m) ≡ true → (s : ℕ) × (serialAsks.heard_of m ≡ serialAsks.not_understood s)
+serial_unclear_lem m =
+    serialEnvelopes.by_rungs (λ (h : serialAsks.Heard). serial_unclear h ≡ true → (s : ℕ) × (h ≡ serialAsks.not_understood s)) m
+    (λ u. absurd (false_true u)) (λ u. absurd (false_true u)) (λ p w u. absurd (part_is_six p u)) (λ n u. (serialAsks.source_of m, refl)) (λ o n u. absurd (false_true u))
   where
-    go : (h : serialHeard.Heard) → serial_unclear h ≡ true → (s : ℕ) × (h ≡ serialIs.NotUnderstood s)
-    go (serialIs.Refused a) u = absurd (false_true u)
-    go (serialIs.Broken s p) u = absurd (false_true u)
-    go (serialIs.NotUnderstood s) u = (s, refl)
-    go (serialIs.Understood s o) u = absurd (false_true u)
+    part_is_six : (p : Part) → eqb (part_number p) 6 ≡ true → ⊥
+    part_is_six Request u = false_true u
+    part_is_six Item u = false_true u
+    part_is_six TooLong u = false_true u
+    part_is_six NotMatching u = false_true u
+    part_is_six Count u = false_true u
+    part_is_six (Checksum place) u = false_true u
 
-pub serial_clear : (m : List ℕ) → ltb (length m) 6 ≡ false → serialAsks.is_foreign m ≡ false → serialAsks.envelope_of m ≡ Good → serial_unclear (serialAsks.heard_of m) ≡ false → (s : ℕ) × (o : serialOrder.Order) × (serialAsks.heard_of m ≡ serialIs.Understood s o)
-unfolding serialAsks.heard_of
-serial_clear m a b c = rw (a, b, c) (go _ (serialEnvelopes.command_judged _ _ _))
+pub serial_clear : (m : List ℕ) → ltb (length m) 6 ≡ false → serialAsks.is_foreign m ≡ false → serialAsks.envelope_of m ≡ Ok tt → serial_unclear (serialAsks.heard_of m) ≡ false → (s : ℕ) × (o : serialOrder.Order) × (serialAsks.heard_of m ≡ serialAsks.understood s o)
+unfolding serialAsks.heard_of serialAsks.order_of
+serial_clear m a b c = rw (a, b, c) (go (serialAsks.source_of m) (serialAsks.command_of (serialAsks.code_of m) (serialAsks.data_of m)))
   where
-    go : (h : serialHeard.Heard) → serialEnvelopes.Judged h → serial_unclear h ≡ false → (s : ℕ) × (o : serialOrder.Order) × (h ≡ serialIs.Understood s o)
-    go (serialIs.Refused a) j u = absurd j
-    go (serialIs.Broken s p) j u = absurd j
-    go (serialIs.NotUnderstood s) j u = absurd (false_true (sym u))
-    go (serialIs.Understood s o) j u = (s, o, refl)
+    go : (s : ℕ) (o : Option serialOrder.Order) → serial_unclear (serialAsks.from_source s (serialAsks.ordered o)) ≡ false
+        → (t : ℕ) × (p : serialOrder.Order) × (serialAsks.from_source s (serialAsks.ordered o) ≡ serialAsks.understood t p)
+    go s (Some o) u = (s, o, refl)
+    go s None u = absurd (false_true (sym u))
 
 -- ---- SDCP
 
@@ -170,7 +174,7 @@ words_judged NotUnderstoodWords = tt
 abbrev packet_rungs : Bool → Bool → Bool → Bool → Bool → Bool → packetHeard.Heard → packetHeard.Heard
 packet_rungs a b q i l n h =
     cond a (packetIs.Refused WrongLength) (cond b (packetIs.Refused NotForUs)
-    (packetAsks.unless_wrong (cond q (Wrong Request) (cond i (Wrong Item) (cond l (Wrong TooLong) (cond n (Wrong NotMatching) Good)))) h))
+    (packetAsks.unless_wrong (cond q (Err Request) (cond i (Err Item) (cond l (Err TooLong) (cond n (Err NotMatching) (Ok tt))))) h))
 
 -- the number of the answer to a packet, whatever the panel, and whether or not a status is refused
 pub packet_answered : (m : List ℕ) (asked : Bool) → number_of (packets.answer_of (packetAsks.unless_status asked (packetAsks.heard_of m))) ≡ first_of own_checks (packet_conditions false asked m)
@@ -197,7 +201,7 @@ packet_unclear_lem m = go (packetAsks.heard_of m)
     go packetIs.NotUnderstood u = refl
     go (packetIs.Understood o) u = absurd (false_true u)
 
-pub packet_clear : (m : List ℕ) → ltb (length m) 13 ≡ false → packetAsks.is_ours m ≡ true → packetAsks.envelope_of m ≡ Good → packet_unclear (packetAsks.heard_of m) ≡ false → (o : wordOrder.Order) × (packetAsks.heard_of m ≡ packetIs.Understood o)
+pub packet_clear : (m : List ℕ) → ltb (length m) 13 ≡ false → packetAsks.is_ours m ≡ true → packetAsks.envelope_of m ≡ Ok tt → packet_unclear (packetAsks.heard_of m) ≡ false → (o : wordOrder.Order) × (packetAsks.heard_of m ≡ packetIs.Understood o)
 unfolding packetAsks.heard_of
 packet_clear m a b c = rw (a, b, c) (go _ (words_judged (read_data (packetAsks.data_of m))))
   where

@@ -31,7 +31,6 @@ use Rattle.kjw_sets.specs.declared.Heard.TheVariants as frameIs
 use Rattle.rs232c_asks.specs.Asks as serialAsks
 use Rattle.rs232c.specs.Orders as serialOrders
 use Rattle.rs232c_asks.specs.declared.Order as serialOrder
-use Rattle.rs232c_asks.specs.declared.Heard.TheVariants as serialIs
 use Rattle.rs232c.proofs.AskedBack as serialBack
 use Rattle.steps.specs.Messages.{Message, rs232c, kjw, tcp, udp, names}
 use Rattle.steps.specs.Addressing.{addressed}
@@ -56,7 +55,7 @@ frame_obeyed b i l m area o e r =
 
 -- ---- RS-232C
 
-pub serial_obeyed : (b : DisplayBox) (i l s : ℕ) (m area : List ℕ) (o : serialOrder.Order) → serialAsks.heard_of m ≡ serialIs.Understood s o → Reaches b (rs232c l m area) i → panel_at i (step b (rs232c l m area)).box ≡ with_w (panel_at i b) (serialOrders.carried o (serialAsks.values_of m) (panel_at i b).w)
+pub serial_obeyed : (b : DisplayBox) (i l s : ℕ) (m area : List ℕ) (o : serialOrder.Order) → serialAsks.heard_of m ≡ serialAsks.understood s o → Reaches b (rs232c l m area) i → panel_at i (step b (rs232c l m area)).box ≡ with_w (panel_at i b) (serialOrders.carried o (serialAsks.values_of m) (panel_at i b).w)
 unfolding turn
 serial_obeyed b i l s m area o e r =
     takes r
@@ -87,7 +86,7 @@ obeyed {b} {m} {i} p o by_udp e r =
 
 -- an order was understood, and the panel is as it was but for the record of its family, on which that order was carried out
 abbrev pub Carried : Message → Panel → Panel → Type 0
-Carried (rs232c l m area) p p' = (s : ℕ) × (o : serialOrder.Order) × (serialAsks.heard_of m ≡ serialIs.Understood s o) × (p' ≡ with_w p (serialOrders.carried o (serialAsks.values_of m) p.w))
+Carried (rs232c l m area) p p' = (s : ℕ) × (o : serialOrder.Order) × (serialAsks.heard_of m ≡ serialAsks.understood s o) × (p' ≡ with_w p (serialOrders.carried o (serialAsks.values_of m) p.w))
 Carried (kjw l m area) p p' = (o : frameOrder.Order) × (frameAsks.heard_of m ≡ frameIs.Understood o) × (p' ≡ with_k p (frameOrders.carried o p.k))
 Carried (tcp l m area) p p' = (o : wordOrder.Order) × (packetAsks.heard_of m ≡ packetIs.Understood o) × (p' ≡ with_w p (words.carried o p.w))
 Carried (udp m) p p' = (o : wordOrder.Order) × (packetAsks.heard_of m ≡ packetIs.Understood o) × (p' ≡ with_w p (words.carried o p.w))

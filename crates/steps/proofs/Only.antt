@@ -13,7 +13,7 @@ use Rattle.laws.proofs.Conditions.{and_first, and_second, false_true}
 use Rattle.terms.specs.Answers.{part_number, number_of}
 use Rattle.terms.specs.declared.Part.{Part}
 use Rattle.terms.specs.declared.Part.TheVariants.{Request, Item, TooLong, NotMatching, Count, Checksum}
-use Rattle.terms.specs.declared.Envelope.TheVariants.{Good}
+use Rattle.std.specs.Prelude.{Ok}
 use Rattle.panels.specs.Records.{family_w, family_k}
 use Rattle.panels.specs.Valid.{valid}
 use Rattle.panels.specs.declared.DisplayBox.{DisplayBox}
@@ -22,7 +22,6 @@ use Rattle.terms.specs.declared.Answer.TheVariants.{Done, PartWrong}
 use Rattle.rs232c_asks.specs.Asks as serialAsks
 use Rattle.rs232c_asks.proofs.Envelopes as serialEnvelopes
 use Rattle.rs232c_asks.specs.declared.Order as serialOrder
-use Rattle.rs232c_asks.specs.declared.Heard.TheVariants as serialIs
 use Rattle.kjw_asks.specs.Asks as frameAsks
 use Rattle.kjw_sets.specs.declared.Order as frameOrder
 use Rattle.kjw_sets.specs.declared.Heard.TheVariants as frameIs
@@ -104,14 +103,14 @@ Asking (udp m) = asks_status (packetAsks.data_of m) ≡ true
 
 -- 6: "contents not understood"
 abbrev pub Unclear : Message → Type 0
-Unclear (rs232c l m area) = (s : ℕ) × (serialAsks.heard_of m ≡ serialIs.NotUnderstood s)
+Unclear (rs232c l m area) = (s : ℕ) × (serialAsks.heard_of m ≡ serialAsks.not_understood s)
 Unclear (kjw l m area) = frameAsks.heard_of m ≡ frameIs.NotUnderstood
 Unclear (tcp l m area) = packetAsks.heard_of m ≡ packetIs.NotUnderstood
 Unclear (udp m) = packetAsks.cast_of m ≡ packetIs.NotUnderstood
 
 -- 0: an order was understood
 abbrev pub Clear : Message → Type 0
-Clear (rs232c l m area) = (s : ℕ) × (o : serialOrder.Order) × (serialAsks.heard_of m ≡ serialIs.Understood s o)
+Clear (rs232c l m area) = (s : ℕ) × (o : serialOrder.Order) × (serialAsks.heard_of m ≡ serialAsks.understood s o)
 Clear (kjw l m area) = (o : frameOrder.Order) × (frameAsks.heard_of m ≡ frameIs.Understood o)
 Clear (tcp l m area) = (o : wordOrder.Order) × (packetAsks.heard_of m ≡ packetIs.Understood o)
 Clear (udp m) = (o : wordOrder.Order) × (packetAsks.cast_of m ≡ packetIs.Understood o)
@@ -282,11 +281,11 @@ module _ (b : DisplayBox) where
   abbrev NoPart : Message → Type 0
   NoPart m = (j : ℕ) → j < 10 → at m j ≡ false
 
-  serial_good : (l : ℕ) (m area : List ℕ) → NoPart (rs232c l m area) → serialAsks.envelope_of m ≡ Good
+  serial_good : (l : ℕ) (m area : List ℕ) → NoPart (rs232c l m area) → serialAsks.envelope_of m ≡ Ok tt
   unfolding serialAsks.envelope_of
   serial_good l m area n = rw (n 8 (omega arith), n 9 (omega arith))
 
-  packet_good : (x : Message) (m : List ℕ) → at x 4 ≡ packetAsks.request_wrong m → at x 5 ≡ packetAsks.item_wrong m → at x 6 ≡ packetAsks.too_long m → at x 7 ≡ packetAsks.not_matching m → NoPart x → packetAsks.envelope_of m ≡ Good
+  packet_good : (x : Message) (m : List ℕ) → at x 4 ≡ packetAsks.request_wrong m → at x 5 ≡ packetAsks.item_wrong m → at x 6 ≡ packetAsks.too_long m → at x 7 ≡ packetAsks.not_matching m → NoPart x → packetAsks.envelope_of m ≡ Ok tt
   unfolding packetAsks.envelope_of
   packet_good x m q i t u n = rw (sym q ∙ n 4 (omega arith), sym i ∙ n 5 (omega arith), sym t ∙ n 6 (omega arith), sym u ∙ n 7 (omega arith))
 

@@ -42,7 +42,7 @@ opened_names c = names (configured c).made
 
 -- RS-232C
 unfoldable opened_serial : List ℕ → WRecord → Turn WRecord
-unfolding sum_of ones ones_in serialAsks.is_foreign serialAsks.envelope_of serialAsks.levels_command serialAsks.remote_command serialAsks.command_of serialAsks.heard_of serialLevels.decode serialLevels.balanced_by serialOrders.carried serialTexts.frame_of serialTexts.bytes_of serialTexts.reply_to serial.turned
+unfolding sum_of ones ones_in serialAsks.is_foreign serialAsks.order_of serialAsks.envelope_of serialAsks.levels_command serialAsks.remote_command serialAsks.command_of serialAsks.heard_of serialLevels.decode serialLevels.balanced_by serialOrders.carried serialTexts.frame_of serialTexts.bytes_of serialTexts.reply_to serial.turned
 opened_serial m w = serial.turn_of m w
 
 -- KJW

@@ -12,7 +12,7 @@ use Rattle.terms.specs.Answers.{number_of}
 use Rattle.terms.specs.declared.Part.{Part}
 use Rattle.terms.specs.declared.Answer.{Answer}
 use Rattle.terms.specs.declared.Answer.TheVariants.{Done, AreaTooSmall, NoSuchPanel, WrongLength, NotForUs, EnvelopeWrong, NotUnderstood, BadConfiguration, StatusByBroadcast, PartWrong}
-use Rattle.terms.specs.declared.Envelope.TheVariants.{Wrong}
+use Rattle.std.specs.Prelude.{Err}
 use Rattle.terms.proofs.Answers.{part_late}
 use Rattle.turns.specs.Turns.{Turn}
 use Rattle.turns.proofs.Turns.{either}
@@ -20,8 +20,6 @@ use Rattle.panels.specs.declared.WRecord.{WRecord}
 use Rattle.panels.specs.declared.KRecord.{KRecord}
 use Rattle.panels.specs.declared.DisplayBox.{DisplayBox}
 use Rattle.rs232c_asks.specs.Asks as serialAsks
-use Rattle.rs232c_asks.specs.declared.Heard as serialHeard
-use Rattle.rs232c_asks.specs.declared.Heard.TheVariants as serialIs
 use Rattle.rs232c_asks.proofs.Envelopes as serialEnvelopes
 use Rattle.rs232c.specs.Replies as serial
 use Rattle.kjw_asks.specs.Asks as frameAsks
@@ -80,18 +78,9 @@ door_told ns (udp m) = choose (Told (udp m)) (any_called m ns) Done (to_nobody m
 
 -- ---- each protocol tells the first
 
-serial_judged : (x : Message) (h : serialHeard.Heard) (vs : List ℕ) (w : WRecord) → serialEnvelopes.Judged h → Told x (serial.turned h vs w).answer
+serial_told : (x : Message) (m vs : List ℕ) (w : WRecord) → ((p : Part) → serialAsks.envelope_of m ≡ Err p → Broken x p) → Told x (serial.turned (serialAsks.heard_of m) vs w).answer
 unfolding serial.turned
-serial_judged x (serialIs.Refused a) vs w j = absurd j
-serial_judged x (serialIs.Broken s p) vs w j = absurd j
-serial_judged x (serialIs.NotUnderstood s) vs w j = tt
-serial_judged x (serialIs.Understood s o) vs w j = tt
-
-serial_told : (x : Message) (m vs : List ℕ) (w : WRecord) → ((p : Part) → serialAsks.envelope_of m ≡ Wrong p → Broken x p) → Told x (serial.turned (serialAsks.heard_of m) vs w).answer
-unfolding serial.turned
-serial_told x m vs w f =
-    serialEnvelopes.by_rungs (λ (h : serialHeard.Heard). Told x (serial.turned h vs w).answer) m tt tt f
-    (serial_judged x (serialAsks.command_of (serialAsks.source_of m) (serialAsks.code_of m) (serialAsks.data_of m)) vs w (serialEnvelopes.command_judged (serialAsks.source_of m) (serialAsks.code_of m) (serialAsks.data_of m)))
+serial_told x m vs w f = serialEnvelopes.by_rungs (λ (h : serialAsks.Heard). Told x (serial.turned h vs w).answer) m tt tt f (λ n. tt) (λ o n. tt)
 
 words_told : (x : Message) (asked : Bool) (y : Words) → Told x (packets.answer_of (packetAsks.unless_status asked (packetAsks.in_words y)))
 words_told x true (UnderstoodWords o) = tt
@@ -99,7 +88,7 @@ words_told x false (UnderstoodWords o) = tt
 words_told x true NotUnderstoodWords = tt
 words_told x false NotUnderstoodWords = tt
 
-packet_told : (x : Message) (m : List ℕ) (asked : Bool) → ((p : Part) → packetAsks.envelope_of m ≡ Wrong p → Broken x p) → Told x (packets.answer_of (packetAsks.unless_status asked (packetAsks.heard_of m)))
+packet_told : (x : Message) (m : List ℕ) (asked : Bool) → ((p : Part) → packetAsks.envelope_of m ≡ Err p → Broken x p) → Told x (packets.answer_of (packetAsks.unless_status asked (packetAsks.heard_of m)))
 packet_told x m asked f =
     packetEnvelopes.by_rungs (λ (h : packetHeard.Heard). Told x (packets.answer_of (packetAsks.unless_status asked h))) m tt tt (λ h. f)
     (λ h. words_told x asked (read_data (packetAsks.data_of m)))

@@ -8,6 +8,8 @@ use native.Mathlib.Omega.{arith}
 use lib.ListN.{length, get_or, set, take, drop, length-set}
 use Rattle.laws.specs.Lists.{every, places}
 use Rattle.laws.proofs.Conditions.{choose}
+use Rattle.std.specs.Prelude.{Result, Ok, Err}
+use Rattle.terms.specs.declared.Answer.{Answer}
 use Rattle.terms.specs.declared.Answer.TheVariants.{Done}
 use Rattle.settings.specs.Table.{place_count}
 use Rattle.turns.specs.Turns.{Turn}
@@ -29,8 +31,6 @@ use Rattle.rs232c_levels.specs.Levels as serialLevels
 use Rattle.rs232c_inputs.specs.Inputs as serialInputs
 use Rattle.rs232c_asks.specs.Commands.{connector_of, act_of}
 use Rattle.rs232c.specs.Replies as serial
-use Rattle.rs232c_asks.specs.declared.Heard as serialHeard
-use Rattle.rs232c_asks.specs.declared.Heard.TheVariants as serialIs
 use Rattle.rs232c_asks.specs.declared.Order as serialOrder
 use Rattle.rs232c_asks.specs.declared.Order.TheVariants.{Config, Select, Levels, Sense, Remote}
 use Rattle.sdcp_asks.specs.Asks.{heard_of, cast_of}
@@ -88,12 +88,14 @@ serial_keep (Levels mask) vs w s = record {
 serial_keep (Sense which) vs w s = s
 serial_keep Remote vs w s = s
 
-serial_turned : (h : serialHeard.Heard) (vs : List ℕ) (w : WRecord) → Shaped w → Shaped (serial.turned h vs w).after
+serial_replied : (x : ℕ) (o : Result serialOrder.Order Answer) (vs : List ℕ) (w : WRecord) → Shaped w → Shaped (serial.replied x o vs w).after
+serial_replied x (Ok o) vs w s = serial_keep o vs w s
+serial_replied x (Err a) vs w s = s
+
+serial_turned : (h : serialAsks.Heard) (vs : List ℕ) (w : WRecord) → Shaped w → Shaped (serial.turned h vs w).after
 unfolding serial.turned
-serial_turned (serialIs.Refused a) vs w s = s
-serial_turned (serialIs.Broken x p) vs w s = s
-serial_turned (serialIs.NotUnderstood x) vs w s = s
-serial_turned (serialIs.Understood x o) vs w s = serial_keep o vs w s
+serial_turned (Err a) vs w s = s
+serial_turned (Ok x) vs w s = serial_replied x.source x.order vs w s
 
 packet_turned : (m : List ℕ) (h : packetHeard.Heard) (w : WRecord) → Shaped w → Shaped (packets.turned m h w).after
 unfolding packets.turned

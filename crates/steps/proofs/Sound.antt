@@ -18,8 +18,7 @@ use Rattle.panels.specs.declared.WRecord.{WRecord}
 use Rattle.panels.specs.declared.KRecord.{KRecord}
 use Rattle.rs232c_asks.specs.Asks as serialAsks
 use Rattle.rs232c.specs.Replies as serial
-use Rattle.rs232c_asks.specs.declared.Heard as serialHeard
-use Rattle.rs232c_asks.specs.declared.Heard.TheVariants as serialIs
+use Rattle.rs232c_asks.proofs.Envelopes as serialEnvelopes
 use Rattle.rs232c.proofs.Refusals as serialRefusals
 use Rattle.rs232c.proofs.Validity as serialValidity
 use Rattle.kjw.specs.Replies as frames
@@ -48,12 +47,11 @@ Quiet n reply = (n ≡ 0 → ⊥) → n < 5 → reply ≡ []
 quiet : {R : Type 0} (room : ℕ) (f : R → Turn R) (x : R) → Quiet (number_of (f x).answer) (f x).reply → Quiet (number_of (taken room f x).answer) (taken room f x).reply
 quiet {R} room f x = either (λ (t : Turn R). Quiet (number_of t.answer) t.reply) room f x (λ z l. refl)
 
-serial_heard : (h : serialHeard.Heard) (vs : List ℕ) (w : WRecord) → Quiet (number_of (serial.turned h vs w).answer) (serial.turned h vs w).reply
+serial_heard : (m vs : List ℕ) (w : WRecord) → Quiet (number_of (serial.turned (serialAsks.heard_of m) vs w).answer) (serial.turned (serialAsks.heard_of m) vs w).reply
 unfolding serial.turned
-serial_heard (serialIs.Refused a) vs w z l = refl
-serial_heard (serialIs.Broken s p) vs w z l = let n = part_late p in absurd (omega (arith, n, l))
-serial_heard (serialIs.NotUnderstood s) vs w z l = absurd (omega arith)
-serial_heard (serialIs.Understood s o) vs w z l = absurd (z refl)
+serial_heard m vs w =
+    serialEnvelopes.by_rungs (λ (h : serialAsks.Heard). Quiet (number_of (serial.turned h vs w).answer) (serial.turned h vs w).reply) m (λ z l. refl) (λ z l. refl)
+    (λ p e z l. let n = part_late p in absurd (omega (arith, n, l))) (λ n z l. absurd (omega arith)) (λ o n z l. absurd (z refl))
 
 frame_heard : (h : frameHeard.Heard) (s : List ℕ) (k : KRecord) → Quiet (number_of (frames.decided k h).answer) (frames.turned s (frames.decided k h)).reply
 unfolding frames.decided frameTexts.bytes_of
@@ -134,7 +132,7 @@ pub sound : (m : Message) (p : Panel) → Sound p (turn m p)
 unfolding turn
 sound (rs232c l m area) p =
     turn_with_w p _ (serialValidity.stays_valid (length area) m p.w) (serialRefusals.refusal_leaves (length area) m p.w)
-    (quiet (length area) (serial.turn_of m) p.w (serial_heard (serialAsks.heard_of m) (serialAsks.values_of m) p.w))
+    (quiet (length area) (serial.turn_of m) p.w (serial_heard m (serialAsks.values_of m) p.w))
 sound (kjw l m area) p =
     turn_with_k p _ (frameValidity.taken_valid (length area) m p.k)
     (λ z. frameRefusals.taken_unchanged (length area) m p.k (λ e. z (ap number_of e)))

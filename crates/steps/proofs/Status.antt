@@ -10,7 +10,7 @@ use Rattle.laws.proofs.Conditions.{false_true}
 use Rattle.terms.specs.Answers.{number_of}
 use Rattle.terms.specs.declared.Answer.{Answer}
 use Rattle.terms.specs.declared.Answer.TheVariants.{StatusByBroadcast}
-use Rattle.terms.specs.declared.Envelope.TheVariants.{Good}
+use Rattle.std.specs.Prelude.{Ok}
 use Rattle.panels.specs.declared.DisplayBox.{DisplayBox}
 use Rattle.vmc_asks.specs.Asks.{asks_status}
 use Rattle.sdcp_asks.specs.Asks.{is_ours, envelope_of, data_of}
@@ -41,12 +41,12 @@ module _ (b : DisplayBox) (m : List ℕ) (i : ℕ) (a : addressed (names b) (udp
       go true e = refl
       go false e = absurd (false_true (sym (uncalled m (names b) e i) ∙ a))
 
-  answered : 13 ≤ length m → envelope_of m ≡ Good → asks_status (data_of m) ≡ true → (step b (udp m)).answer ≡ StatusByBroadcast
+  answered : 13 ≤ length m → envelope_of m ≡ Ok tt → asks_status (data_of m) ≡ true → (step b (udp m)).answer ≡ StatusByBroadcast
   unfolding step door
   answered h w e = rw some (ap answer_of (cast_status m h ours w e))
 
   -- whatever the box, and whatever follows the word: "no panel changes and no reply is sent"
-  pub status_refused : 13 ≤ length m → envelope_of m ≡ Good → asks_status (data_of m) ≡ true → step b (udp m) ≡ refused b (udp m) StatusByBroadcast
+  pub status_refused : 13 ≤ length m → envelope_of m ≡ Ok tt → asks_status (data_of m) ≡ true → step b (udp m) ≡ refused b (udp m) StatusByBroadcast
   status_refused h w e =
       let n = ap number_of (answered h w e) in
       ap (λ (x : DisplayBox). record { box = x; answer = (step b (udp m)).answer; back = (step b (udp m)).back }) (refused_leaves b (udp m) (λ z. omega (arith, n, z)))

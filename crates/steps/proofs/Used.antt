@@ -4,7 +4,7 @@ use mathlib.Core.Path.{◌≡◌, refl}
 use mathlib.Core.Bool.{true}
 use mathlib.Core.List.{List, [], ◌∷◌}
 use lib.Dec.{lit<}
-use lib.ListN.{length}
+use lib.ListN.{length, get_or}
 use Rattle.laws.specs.Bytes.{ascii}
 use Rattle.terms.specs.declared.Answer.TheVariants.{Done}
 use Rattle.panels.specs.Records.{family_w, family_k}
@@ -16,7 +16,7 @@ use Rattle.vmc_asks.specs.declared.Order.TheVariants.{Set}
 use Rattle.vmc_asks.specs.declared.Words.TheVariants.{Understood}
 use Rattle.rs232c_asks.specs.Asks.{sense_command}
 use Rattle.rs232c_tells.specs.Texts.{bytes_of}
-use Rattle.rs232c_tells.specs.declared.Three.{Three}
+use Rattle.rs232c_asks.specs.declared.Which.TheVariants.{Gains, Biases}
 use Rattle.rs232c_tells.specs.declared.Reply.TheVariants.{Balances}
 use Rattle.steps.specs.Messages.{Message, rs232c, kjw, tcp, udp}
 use Rattle.steps.specs.Step.{back_on, panel_at, step}
@@ -85,18 +85,18 @@ volume_again =
     (x.tells.carries, x.ends_bare_holds, x.sets_again, x.leaves)
 
 -- 61h after the others brings the R gain that was said, and of G and B what the same 61h brings of the box before
-pub gain_told : (before : Three) × (t : Three)
-    × ((step (run_from two []) (rs232c 1 sense room)).back ≡ back_on room (bytes_of (Balances 0x41 1 before)))
-    × ((step levels_set (rs232c 1 sense room)).back ≡ back_on room (bytes_of (Balances 0x41 1 t)))
-    × (t.r ≡ 4095) × (t.g ≡ before.g) × (t.b ≡ before.b)
+pub gain_told : (before : List ℕ) × (t : List ℕ)
+    × ((step (run_from two []) (rs232c 1 sense room)).back ≡ back_on room (bytes_of (Balances 0x41 Gains before)))
+    × ((step levels_set (rs232c 1 sense room)).back ≡ back_on room (bytes_of (Balances 0x41 Gains t)))
+    × (get_or t 0 0 ≡ 4095) × (get_or t 1 0 ≡ get_or before 1 0) × (get_or t 2 0 ≡ get_or before 2 0)
 unfolding opened sense_command
 gain_told =
-    let x = levels_stands_asked two [] 0 0x41 levels room refl 0x21 refl others refl 1 0x41 1 sense room (record { passes = refl; meant = refl }) (record { passes = refl; meant = refl }) refl in
+    let x = levels_stands_asked two [] 0 0x41 levels room refl 0x21 refl others refl 1 0x41 Gains sense room (record { passes = refl; meant = refl }) (record { passes = refl; meant = refl }) refl in
     (x.0, x.1, x.2, x.3, x.4.brings 0 (lit< tt), x.4.brings 1 (lit< tt), x.4.brings 2 (lit< tt))
 
 -- and the B bias, in its eleven bits
-pub bias_told : (t : Three) × ((step levels_set (rs232c 1 sense_biases room)).back ≡ back_on room (bytes_of (Balances 0x41 2 t))) × (t.b ≡ 1024)
+pub bias_told : (t : List ℕ) × ((step levels_set (rs232c 1 sense_biases room)).back ≡ back_on room (bytes_of (Balances 0x41 Biases t))) × (get_or t 2 0 ≡ 1024)
 unfolding opened sense_command
 bias_told =
-    let x = levels_stands_asked two [] 0 0x41 levels room refl 0x21 refl others refl 1 0x41 2 sense_biases room (record { passes = refl; meant = refl }) (record { passes = refl; meant = refl }) refl in
+    let x = levels_stands_asked two [] 0 0x41 levels room refl 0x21 refl others refl 1 0x41 Biases sense_biases room (record { passes = refl; meant = refl }) (record { passes = refl; meant = refl }) refl in
     (x.1, x.3, x.4.brings 2 (lit< tt))
