@@ -3,9 +3,9 @@ use mathlib.Core.Path.{◌≡◌, refl, sym, ap, ◌∙◌}
 use mathlib.Core.Bool.{Bool, true, false, cond, ◌&&◌}
 use mathlib.Core.List.{List, [], ◌++◌, Memᴰ}
 use Prim.Native.Nat.{ℕ, ◌≤◌}
-use native.Mathlib.Omega.{arith}
 use lib.ListN.{length}
 use borrow.Author.Tests.{eq-eqb}
+use Rattle.std.specs.Prelude.{Option, Some, None, Result, Ok, option_map, ok_or}
 use Rattle.laws.specs.Bytes.{ascii, same}
 use Rattle.laws.specs.Lists.{every, listed}
 use Rattle.laws.proofs.Lists.{same_self}
@@ -17,17 +17,16 @@ use Rattle.decimals.specs.Decimals.{is_digit, decimal}
 use Rattle.panels.specs.declared.KRecord.{KRecord}
 use Rattle.remote.specs.Codes.{Code, codes, asked_in, button_of}
 use Rattle.remote.specs.declared.Button.{Button}
-use Rattle.remote.specs.declared.Button.TheVariants.{Unlisted, Idle, Louder, Softer, Mute, Picture, Power, Hdmi}
-use Rattle.remote.proofs.Rules.{numbers, listed_asks, asks_one, unlisted}
+use Rattle.remote.specs.declared.Button.TheVariants.{Idle, Louder, Softer, Mute, Picture, Power, Hdmi}
+use Rattle.remote.proofs.Rules.{numbers, listed_asks, unlisted}
 use Rattle.kjw_sets.specs.declared.State.{State}
 use Rattle.kjw_sets.specs.declared.State.TheVariants as states
-use Rattle.kjw_sets.specs.declared.Heard.{Heard}
-use Rattle.kjw_sets.specs.declared.Heard.TheVariants.{NotUnderstood}
+use Rattle.kjw_sets.specs.declared.Order.{Order}
+use Rattle.kjw_asks.specs.declared.Fault.{Fault}
+use Rattle.kjw_asks.specs.declared.Fault.TheVariants.{NotUnderstood}
 use Rattle.kjw_sets.specs.Words.{state_letters}
 use Rattle.kjw_codes.specs.Presses.{pressed, is_code, code_order}
 use Rattle.kjw_asks.specs.Frames.{frame_of, type_control, type_answer, type_notice, letters_of}
-use Rattle.kjw_asks.specs.declared.Named.{Named}
-use Rattle.kjw_asks.specs.declared.Named.TheVariants.{Is, Nothing}
 use Rattle.kjw_asks.specs.Asks.{named_in, state_named, code_or_toggle, control_of, heard_of}
 use Rattle.kjw_values.specs.Values.{value_of}
 use Rattle.kjw_tells.specs.Texts.{accepted, rejected, bytes_of}
@@ -48,7 +47,6 @@ answer p = frame_of type_answer (ascii "IRCC") p
 -- "Volume Up and Down move by one and stop at 0 and 100; Mute flips AMUT; Picture Off flips PMUT; TV Power flips POWR; HDMI 1 to 4 choose
 -- type 1 and that port. Other listed codes are answered and change nothing."
 abbrev pub after_press : Button → KRecord → KRecord
-after_press Unlisted k = k
 after_press Idle k = k
 after_press Louder k = with_volume (louder k.volume) k
 after_press Softer k = with_volume (softer k.volume) k
@@ -58,20 +56,19 @@ after_press Power k = with_power (turned_over k.power) k
 after_press (Hdmi port) k = with_input 1 port k
 
 -- the state that a button can change
-abbrev state_of : Button → Named
-state_of Unlisted = Nothing
-state_of Idle = Nothing
-state_of Louder = Is states.Volume
-state_of Softer = Is states.Volume
-state_of Mute = Is states.AudioMute
-state_of Picture = Is states.PictureMute
-state_of Power = Is states.Power
-state_of (Hdmi port) = Is states.Input
+abbrev state_of : Button → Option State
+state_of Idle = None
+state_of Louder = Some states.Volume
+state_of Softer = Some states.Volume
+state_of Mute = Some states.AudioMute
+state_of Picture = Some states.PictureMute
+state_of Power = Some states.Power
+state_of (Hdmi port) = Some states.Input
 
 -- "A change is followed by the usual notice with the state's own letters."
-abbrev notice : Named → KRecord → KRecord → List ℕ
-notice Nothing k k' = []
-notice (Is s) k k' = cond (same (value_of s k) (value_of s k')) [] (frame_of type_notice (state_letters s) (value_of s k'))
+abbrev notice : Option State → KRecord → KRecord → List ℕ
+notice None k k' = []
+notice (Some s) k k' = cond (same (value_of s k) (value_of s k')) [] (frame_of type_notice (state_letters s) (value_of s k'))
 
 -- 0 with sixteen `0`, and a notice behind them
 abbrev answered : KRecord → List ℕ → Turn KRecord
@@ -87,7 +84,7 @@ refused_code k = record { after = k; answer = answers.NotUnderstood; reply = ans
 
 -- ---- the reply to each button
 
-with_notice : (s : State) (k k' : KRecord) → bytes_of (noticed s k k') k' (ascii "IRCC") ≡ answer accepted ++ notice (Is s) k k'
+with_notice : (s : State) (k k' : KRecord) → bytes_of (noticed s k k') k' (ascii "IRCC") ≡ answer accepted ++ notice (Some s) k k'
 unfolding noticed bytes_of frame_of
 with_notice s k k' = go (same (value_of s k) (value_of s k'))
   where
@@ -97,24 +94,23 @@ with_notice s k k' = go (same (value_of s k) (value_of s k'))
     go false = refl
 
 replied : (s : State) (k k' : KRecord)
-    → ◌≡◌ {A = Turn KRecord} (record { after = k'; answer = Done; reply = bytes_of (noticed s k k') k' (ascii "IRCC") }) (answered k' (notice (Is s) k k'))
+    → ◌≡◌ {A = Turn KRecord} (record { after = k'; answer = Done; reply = bytes_of (noticed s k k') k' (ascii "IRCC") }) (answered k' (notice (Some s) k k'))
 replied s k k' = rw (with_notice s k k')
 
-button_met : (b : Button) (k : KRecord) → (b ≡ Unlisted → ⊥) → turned (ascii "IRCC") (decided k (pressed b)) ≡ answered_as b k
+button_met : (b : Button) (k : KRecord) → turned (ascii "IRCC") (decided k (Ok (pressed b))) ≡ answered_as b k
 unfolding decided carried reply_of bytes_of frame_of
-button_met Unlisted k n = absurd (n refl)
-button_met Idle k n = refl
-button_met Louder k n = replied states.Volume k (after_press Louder k)
-button_met Softer k n = replied states.Volume k (after_press Softer k)
-button_met Mute k n = replied states.AudioMute k (after_press Mute k)
-button_met Picture k n = replied states.PictureMute k (after_press Picture k)
-button_met Power k n = replied states.Power k (after_press Power k)
-button_met (Hdmi port) k n = replied states.Input k (after_press (Hdmi port) k)
+button_met Idle k = refl
+button_met Louder k = replied states.Volume k (after_press Louder k)
+button_met Softer k = replied states.Volume k (after_press Softer k)
+button_met Mute k = replied states.AudioMute k (after_press Mute k)
+button_met Picture k = replied states.PictureMute k (after_press Picture k)
+button_met Power k = replied states.Power k (after_press Power k)
+button_met (Hdmi port) k = replied states.Input k (after_press (Hdmi port) k)
 
 -- no change, no notice
-none : (n : Named) (k : KRecord) → notice n k k ≡ []
-none Nothing k = refl
-none (Is s) k = rw (same_self (value_of s k))
+none : (n : Option State) (k : KRecord) → notice n k k ≡ []
+none None k = refl
+none (Some s) k = rw (same_self (value_of s k))
 
 quiet : (b : Button) (k : KRecord) → after_press b k ≡ k → answered_as b k ≡ answered k []
 quiet b k e = ap (λ (k' : KRecord). answered k' (notice (state_of b) k k')) e ∙ ap (answered k) (none (state_of b) k)
@@ -122,7 +118,7 @@ quiet b k e = ap (λ (k' : KRecord). answered k' (notice (state_of b) k k')) e �
 -- ---- sixteen parameters behind IRCC, any panel, and any area that is long enough
 
 module _ (p : List ℕ) (sixteen : length p ≡ 16) (room : ℕ) (enough : 512 ≤ room) (k : KRecord) where
-  heard_code : heard_of (code_frame p) ≡ code_order p
+  heard_code : heard_of (code_frame p) ≡ ok_or (code_order p) NotUnderstood
   unfolding control_of state_named named_in state_letters code_or_toggle
   heard_code = heard_frame type_control 73 82 67 67 p sixteen refl
 
@@ -130,32 +126,32 @@ module _ (p : List ℕ) (sixteen : length p ≡ 16) (room : ℕ) (enough : 512 �
   unfolding letters_of frame_of
   letters_code = refl
 
-  taken_code : (h : Heard) → code_order p ≡ h → taken room (turn_of (code_frame p)) k ≡ turned (ascii "IRCC") (decided k h)
+  taken_code : (o : Option Order) → code_order p ≡ o → taken room (turn_of (code_frame p)) k ≡ turned (ascii "IRCC") (decided k (ok_or o NotUnderstood))
   unfolding turn_of
-  taken_code h e =
+  taken_code o e =
       roomy room (turn_of (code_frame p)) k enough
       ∙ ap (λ (x : List ℕ). turned x (decided k (heard_of (code_frame p)))) letters_code
-      ∙ ap (λ (x : Heard). turned (ascii "IRCC") (decided k x)) (heard_code ∙ e)
+      ∙ ap (λ (x : Result Order Fault). turned (ascii "IRCC") (decided k x)) (heard_code ∙ ap (λ (x : Option Order). ok_or x NotUnderstood) e)
 
   -- "an unlisted code, or a parameter that isn't sixteen digits, is 6"
   pub code_refused : (every is_digit p && listed numbers (decimal p)) ≡ false → taken room (turn_of (code_frame p)) k ≡ refused_code k
   unfolding code_order is_code decided bytes_of
-  code_refused e = taken_code NotUnderstood (rw (eq-eqb (length p) 16 sixteen) (go (every is_digit p) e))
+  code_refused e = taken_code None (rw (eq-eqb (length p) 16 sixteen) (go (every is_digit p) e))
     where
-      go : (b : Bool) → (b && listed numbers (decimal p)) ≡ false → cond b (pressed (button_of (decimal p))) NotUnderstood ≡ NotUnderstood
-      go true f = ap pressed (unlisted (decimal p) f)
+      go : (b : Bool) → (b && listed numbers (decimal p)) ≡ false → cond b (option_map pressed (button_of (decimal p))) None ≡ None
+      go true f = ap (option_map pressed) (unlisted (decimal p) f)
       go false f = refl
 
   -- the parameters are digits
   module _ (digits : every is_digit p ≡ true) where
     -- the number that they write is a button's
-    pub number_met : (b : Button) → button_of (decimal p) ≡ b → (b ≡ Unlisted → ⊥) → taken room (turn_of (code_frame p)) k ≡ answered_as b k
+    pub number_met : (b : Button) → button_of (decimal p) ≡ Some b → taken room (turn_of (code_frame p)) k ≡ answered_as b k
     unfolding code_order is_code
-    number_met b e n = let f : code_order p ≡ pressed b = rw (eq-eqb (length p) 16 sixteen, digits, e) in taken_code (pressed b) f ∙ button_met b k n
+    number_met b e = let f : code_order p ≡ Some (pressed b) = rw (eq-eqb (length p) 16 sixteen, digits, e) in taken_code (Some (pressed b)) f ∙ button_met b k
 
     -- "every code in document 003's table"
     pub code_met : (c : Code) → Memᴰ c codes → decimal p ≡ c.code → taken room (turn_of (code_frame p)) k ≡ answered_as c.asks k
-    code_met c m n = number_met c.asks (ap button_of n ∙ listed_asks c m) (asks_one c m)
+    code_met c m n = number_met c.asks (ap button_of n ∙ listed_asks c m)
 
     -- where the panel stays as it was, the answer comes alone
     pub unchanged_quiet : (c : Code) → Memᴰ c codes → decimal p ≡ c.code → after_press c.asks k ≡ k → taken room (turn_of (code_frame p)) k ≡ answered k []
@@ -169,7 +165,7 @@ module _ (p : List ℕ) (sixteen : length p ≡ 16) (room : ℕ) (enough : 512 �
     pub at_the_stop : (decimal p ≡ 30 → k.volume ≡ 100 → taken room (turn_of (code_frame p)) k ≡ answered k []) × (decimal p ≡ 31 → k.volume ≡ 0 → taken room (turn_of (code_frame p)) k ≡ answered k [])
     unfolding button_of asked_in louder softer
     at_the_stop =
-        let stops : (b : Button) → button_of (decimal p) ≡ b → (b ≡ Unlisted → ⊥) → after_press b k ≡ k → taken room (turn_of (code_frame p)) k ≡ answered k [] = λ b e n u. number_met b e n ∙ quiet b k u in (
-          λ n v. stops Louder (ap button_of n) (λ e. let z : ◌≡◌ {A = ℕ} 0 1 = cc in omega arith) (ap (λ (x : ℕ). with_volume x k) (ap louder v ∙ sym v)),
-          λ n v. stops Softer (ap button_of n) (λ e. let z : ◌≡◌ {A = ℕ} 0 1 = cc in omega arith) (ap (λ (x : ℕ). with_volume x k) (ap softer v ∙ sym v)),
+        let stops : (b : Button) → button_of (decimal p) ≡ Some b → after_press b k ≡ k → taken room (turn_of (code_frame p)) k ≡ answered k [] = λ b e u. number_met b e ∙ quiet b k u in (
+          λ n v. stops Louder (ap button_of n) (ap (λ (x : ℕ). with_volume x k) (ap louder v ∙ sym v)),
+          λ n v. stops Softer (ap button_of n) (ap (λ (x : ℕ). with_volume x k) (ap softer v ∙ sym v)),
         )

@@ -5,6 +5,7 @@ use mathlib.Core.List.{List, [], ◌∷◌}
 use Prim.Native.Nat.{ℕ}
 use native.Mathlib.Omega.{arith}
 use lib.ListN.{length}
+use Rattle.std.specs.Prelude.{Result, Ok, Err}
 use Rattle.laws.specs.Bytes.{same}
 use Rattle.laws.specs.Lists.{listed}
 use Rattle.laws.proofs.Conditions.{false_true}
@@ -19,8 +20,8 @@ use Rattle.kjw_sets.specs.declared.State.{State}
 use Rattle.kjw_sets.specs.declared.State.TheVariants.{Power, AudioMute, PictureMute, Volume, Input}
 use Rattle.kjw_sets.specs.declared.Order.{Order}
 use Rattle.kjw_sets.specs.declared.Order.TheVariants.{SetPower, TogglePower, SetAudioMute, ToggleAudioMute, SetPictureMute, TogglePictureMute, SetVolume, Louder, Softer, SetInput, SetScene, Pass, Ask}
-use Rattle.kjw_sets.specs.declared.Heard.{Heard}
-use Rattle.kjw_sets.specs.declared.Heard.TheVariants.{Refused, NotUnderstood, Understood}
+use Rattle.kjw_asks.specs.declared.Fault.{Fault}
+use Rattle.kjw_asks.specs.declared.Fault.TheVariants.{Refused, NotUnderstood}
 use Rattle.kjw_tells.specs.declared.Reply.{Reply}
 use Rattle.kjw_tells.specs.declared.Reply.TheVariants.{Silent, Rejected, Accepted, Changed, Value}
 use Rattle.kjw_tells.proofs.Lengths.{length_of, bytes_length}
@@ -71,11 +72,11 @@ reply_changed (SetScene v) k k' e = absurd (omega arith)
 reply_changed Pass k k' e = absurd (omega arith)
 reply_changed (Ask s) k k' e = absurd (omega arith)
 
-turn_changed : (h : Heard) (k : KRecord) → length_of (decided k h).reply ≡ 48 → Notice k (decided k h).k
+turn_changed : (h : Result Order Fault) (k : KRecord) → length_of (decided k h).reply ≡ 48 → Notice k (decided k h).k
 unfolding decided
-turn_changed (Refused a) k e = absurd (omega arith)
-turn_changed NotUnderstood k e = absurd (omega arith)
-turn_changed (Understood o) k e = reply_changed o k (carried o k) e
+turn_changed (Err (Refused a)) k e = absurd (omega arith)
+turn_changed (Err NotUnderstood) k e = absurd (omega arith)
+turn_changed (Ok o) k e = reply_changed o k (carried o k) e
 
 pub notice_changed : (m : List ℕ) (k : KRecord) → length (turn_of m k).reply ≡ 48 → Notice k (turn_of m k).after
 unfolding turn_of

@@ -7,6 +7,7 @@ use lib.Dec.{eqb}
 use lib.ListN.{get_or}
 use lib.Seq.{get_or-set_other}
 use borrow.Author.Tests.{eqb-true, eqb-false}
+use Rattle.std.specs.Prelude.{Result, Ok, Err}
 use Rattle.laws.proofs.Conditions.{false_true}
 use Rattle.turns.specs.Turns.{Turn, taken}
 use Rattle.turns.proofs.Turns.{either}
@@ -20,8 +21,8 @@ use Rattle.kjw_sets.specs.declared.State.{State}
 use Rattle.kjw_sets.specs.declared.State.TheVariants.{Power, AudioMute, PictureMute, Volume, Input, Scene}
 use Rattle.kjw_sets.specs.declared.Order.{Order}
 use Rattle.kjw_sets.specs.declared.Order.TheVariants.{SetPower, TogglePower, SetAudioMute, ToggleAudioMute, SetPictureMute, TogglePictureMute, SetVolume, Louder, Softer, SetInput, SetScene, Pass, Ask}
-use Rattle.kjw_sets.specs.declared.Heard.{Heard}
-use Rattle.kjw_sets.specs.declared.Heard.TheVariants.{Refused, NotUnderstood, Understood}
+use Rattle.kjw_asks.specs.declared.Fault.{Fault}
+use Rattle.kjw_asks.specs.declared.Fault.TheVariants.{Refused, NotUnderstood}
 
 -- the states in a row, and the one that an order sets; a pass and an enquiry set none of the six
 abbrev pub place_of : State → ℕ
@@ -48,10 +49,10 @@ place_set Pass = 6
 place_set (Ask s) = 6
 
 -- what was heard is an order that sets the state
-abbrev pub sets_state : Heard → State → Bool
-sets_state (Refused a) s = false
-sets_state NotUnderstood s = false
-sets_state (Understood o) s = eqb (place_of s) (place_set o)
+abbrev pub sets_state : Result Order Fault → State → Bool
+sets_state (Err (Refused a)) s = false
+sets_state (Err NotUnderstood) s = false
+sets_state (Ok o) s = eqb (place_of s) (place_set o)
 
 -- the numbers of each state
 abbrev rows : KRecord → List (List ℕ)
@@ -82,11 +83,11 @@ value_by_row Volume k k' e = ap (λ (r : List ℕ). in_digits 16 (get_or r 0 0))
 value_by_row Input k k' e = ap (λ (r : List ℕ). input_word (get_or r 0 0) (get_or r 1 0)) e
 value_by_row Scene k k' e = ap (λ (r : List ℕ). scene_word (get_or r 0 0)) e
 
-turn_stays : (h : Heard) (s : State) (k : KRecord) → sets_state h s ≡ false → value_of s (decided k h).k ≡ value_of s k
+turn_stays : (h : Result Order Fault) (s : State) (k : KRecord) → sets_state h s ≡ false → value_of s (decided k h).k ≡ value_of s k
 unfolding decided
-turn_stays (Refused a) s k n = refl
-turn_stays NotUnderstood s k n = refl
-turn_stays (Understood o) s k n = value_by_row s k (carried o k) (row_stays o k (place_of s) n)
+turn_stays (Err (Refused a)) s k n = refl
+turn_stays (Err NotUnderstood) s k n = refl
+turn_stays (Ok o) s k n = value_by_row s k (carried o k) (row_stays o k (place_of s) n)
 
 -- whatever the message and the area, the value of a state stays, but for an order that sets it
 pub stays : (room : ℕ) (m : List ℕ) (s : State) (k : KRecord) → sets_state (heard_of m) s ≡ false → value_of s (taken room (turn_of m) k).after ≡ value_of s k
@@ -95,10 +96,10 @@ stays room m s k n = either (λ (t : Turn KRecord). value_of s t.after ≡ value
 
 -- ---- what a KJW frame sets: an order that was understood, and one state alone
 
-pub sets_understood : (h : Heard) (s : State) → sets_state h s ≡ true → (o : Order) × (h ≡ Understood o)
-sets_understood (Refused a) s e = absurd (false_true e)
-sets_understood NotUnderstood s e = absurd (false_true e)
-sets_understood (Understood o) s e = (o, refl)
+pub sets_understood : (h : Result Order Fault) (s : State) → sets_state h s ≡ true → (o : Order) × (h ≡ Ok o)
+sets_understood (Err (Refused a)) s e = absurd (false_true e)
+sets_understood (Err NotUnderstood) s e = absurd (false_true e)
+sets_understood (Ok o) s e = (o, refl)
 
 state_at : ℕ → State
 state_at zero = Power
@@ -117,14 +118,14 @@ state_placed Volume = refl
 state_placed Input = refl
 state_placed Scene = refl
 
-pub sets_one : (o : Order) (s t : State) → sets_state (Understood o) s ≡ true → sets_state (Understood o) t ≡ true → s ≡ t
+pub sets_one : (o : Order) (s t : State) → sets_state (Ok o) s ≡ true → sets_state (Ok o) t ≡ true → s ≡ t
 sets_one o s t e f =
     let p = eqb-true (place_of s) (place_set o) e in
     let q = eqb-true (place_of t) (place_set o) f in
     sym (state_placed s) ∙ ap state_at (p ∙ sym q) ∙ state_placed t
 
 -- and neither an enquiry nor a button that does nothing sets any
-pub asks_none : (s t : State) → (sets_state (Understood (Ask s)) t ≡ false) × (sets_state (Understood Pass) t ≡ false)
+pub asks_none : (s t : State) → (sets_state (Ok (Ask s)) t ≡ false) × (sets_state (Ok Pass) t ≡ false)
 asks_none s Power = (refl, refl)
 asks_none s AudioMute = (refl, refl)
 asks_none s PictureMute = (refl, refl)

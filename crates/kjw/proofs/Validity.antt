@@ -1,12 +1,13 @@
 -- A valid panel stays valid: only orders in their ranges are understood.
 use mathlib.Core.Path.{◌≡◌, refl}
-use mathlib.Core.Bool.{Bool, true, not, ◌&&◌}
+use mathlib.Core.Bool.{Bool, true, not, cond, ◌&&◌}
 use mathlib.Core.List.{List}
 use Prim.Native.Nat.{ℕ, ◌+◌, ◌-◌, ◌<◌}
 use native.Mathlib.Omega.{arith}
 use lib.ListN.{length, get_or}
 use lib.Dec.{eqb, leb, ltb}
 use borrow.Author.Tests.{le-leb, leb-true, ltb-true}
+use Rattle.std.specs.Prelude.{Option, Some, None, Result, Ok, Err, option_map, ok_or}
 use Rattle.laws.specs.Bytes.{ascii, part, same}
 use Rattle.laws.specs.Lists.{every}
 use Rattle.laws.proofs.Conditions.{and_first, and_second, choose}
@@ -19,21 +20,19 @@ use Rattle.panels.specs.declared.KRecord.{KRecord}
 use Rattle.decimals.specs.Decimals.{is_digit, decimal}
 use Rattle.kjw_asks.specs.Frames.{letters_of, type_control, blank}
 use Rattle.kjw_asks.specs.Asks.{state_named, toggle_of, code_or_toggle, control_by, control_of, enquiry_by, enquiry_of, is_ours, heard_of}
-use Rattle.kjw_sets.specs.Sets.{Choice, a_word, no_word, chosen, choice_order, is_volume, is_padded, kind_in, port_in, input_of, volume_order, input_order, set_by, set_of}
+use Rattle.kjw_sets.specs.Sets.{chosen, choice_order, is_volume, is_padded, kind_in, port_in, input_of, volume_order, input_order, set_by, set_of}
 use Rattle.remote.specs.Codes.{button_of}
 use Rattle.remote.specs.declared.Button.{Button}
 use Rattle.remote.proofs.Rules.{each_asks}
 use Rattle.kjw_codes.specs.Presses.{pressed, is_code, code_order}
-use Rattle.kjw_asks.specs.declared.Named.{Named}
-use Rattle.kjw_asks.specs.declared.Named.TheVariants.{Is, Nothing}
 use Rattle.kjw.specs.Orders.{turned_over, louder, softer, carried}
 use Rattle.kjw.specs.Replies.{decided, turn_of}
 use Rattle.kjw_sets.specs.declared.State.{State}
 use Rattle.kjw_sets.specs.declared.State.TheVariants.{Power, AudioMute, PictureMute, Volume, Input, Scene}
 use Rattle.kjw_sets.specs.declared.Order.{Order}
 use Rattle.kjw_sets.specs.declared.Order.TheVariants.{SetPower, TogglePower, SetAudioMute, ToggleAudioMute, SetPictureMute, TogglePictureMute, SetVolume, Louder, Softer, SetInput, SetScene, Pass, Ask}
-use Rattle.kjw_sets.specs.declared.Heard.{Heard}
-use Rattle.kjw_sets.specs.declared.Heard.TheVariants.{Refused, NotUnderstood, Understood}
+use Rattle.kjw_asks.specs.declared.Fault.{Fault}
+use Rattle.kjw_asks.specs.declared.Fault.TheVariants.{Refused, NotUnderstood}
 use Rattle.kjw_sets.specs.Words.{switches, scenes}
 use Rattle.kjw_sets.proofs.Parameters.{Chose, volume_most}
 use Rattle.kjw_values.specs.Values.{switch_word, scene_word}
@@ -55,18 +54,26 @@ in_range (SetScene v) = leb v last_scene
 in_range Pass = true
 in_range (Ask s) = true
 
-abbrev sound : Heard → Bool
-sound (Refused a) = true
-sound NotUnderstood = true
-sound (Understood o) = in_range o
+abbrev fits : Option Order → Bool
+fits None = true
+fits (Some o) = in_range o
 
-abbrev Sound : Heard → Type 0
-Sound h = sound h ≡ true
+abbrev Sound : Option Order → Type 0
+Sound o = fits o ≡ true
 
-word_sound : (order : ℕ → Order) (word : ℕ → List ℕ) (below : ℕ) (p : List ℕ) (c : Choice) → Chose word below p c
+abbrev sound : Result Order Fault → Bool
+sound (Err f) = true
+sound (Ok o) = in_range o
+
+-- no order, which is not understood, or one in its range
+sound_or : (o : Option Order) → Sound o → sound (ok_or o NotUnderstood) ≡ true
+sound_or None e = refl
+sound_or (Some o) e = e
+
+word_sound : (order : ℕ → Order) (word : ℕ → List ℕ) (below : ℕ) (p : List ℕ) (c : Option ℕ) → Chose word below p c
     → ((v : ℕ) → v < below → in_range (order v) ≡ true) → Sound (choice_order order c)
-word_sound order word below p (a_word v) h f = f v h.0
-word_sound order word below p no_word h f = refl
+word_sound order word below p (Some v) h f = f v h.0
+word_sound order word below p None h f = refl
 
 switch_sound : (v : ℕ) → v < 2 → leb v 1 ≡ true
 switch_sound v h = le-leb v 1 (omega arith)
@@ -74,13 +81,13 @@ switch_sound v h = le-leb v 1 (omega arith)
 volume_sound : (p : List ℕ) → Sound (volume_order p)
 unfolding volume_order
 volume_sound p =
-    choose Sound (is_volume p) (Understood (SetVolume (decimal p))) NotUnderstood (λ e. le-leb (decimal p) most_volume (volume_most p e)) (λ e. refl)
+    choose Sound (is_volume p) (Some (SetVolume (decimal p))) None (λ e. le-leb (decimal p) most_volume (volume_most p e)) (λ e. refl)
 
 input_sound : (p : List ℕ) → Sound (input_order p)
 unfolding input_order input_of
 input_sound p =
-    choose Sound (is_padded p && every is_digit (kind_in p) && every is_digit (port_in p)) (input_of (decimal (kind_in p)) (decimal (port_in p))) NotUnderstood
-    (λ e. choose Sound (ok_input (decimal (kind_in p)) (decimal (port_in p))) (Understood (SetInput (decimal (kind_in p)) (decimal (port_in p)))) NotUnderstood (λ f. f) (λ f. refl))
+    choose Sound (is_padded p && every is_digit (kind_in p) && every is_digit (port_in p)) (input_of (decimal (kind_in p)) (decimal (port_in p))) None
+    (λ e. choose Sound (ok_input (decimal (kind_in p)) (decimal (port_in p))) (Some (SetInput (decimal (kind_in p)) (decimal (port_in p)))) None (λ f. f) (λ f. refl))
     (λ e. refl)
 
 by_sound : (s : State) (p : List ℕ) → Sound (set_by s p)
@@ -94,40 +101,43 @@ by_sound Scene p = word_sound SetScene scene_word 3 p (chosen scenes p) (scene_c
 
 set_sound : (s : State) (p : List ℕ) → Sound (set_of s p)
 unfolding set_of
-set_sound s p = choose Sound (eqb (length p) 16) (set_by s p) NotUnderstood (λ e. by_sound s p) (λ e. refl)
+set_sound s p = choose Sound (eqb (length p) 16) (set_by s p) None (λ e. by_sound s p) (λ e. refl)
 
 toggle_sound : (l p : List ℕ) → Sound (toggle_of l p)
 unfolding toggle_of
 toggle_sound l p =
-    choose Sound (not (same p blank)) NotUnderstood _ (λ e. refl)
-    (λ e. choose Sound (same l (ascii "TPOW")) (Understood TogglePower) _ (λ f. refl)
-    (λ f. choose Sound (same l (ascii "TPMU")) (Understood TogglePictureMute) NotUnderstood (λ g. refl) (λ g. refl)))
+    choose Sound (not (same p blank)) None _ (λ e. refl)
+    (λ e. choose Sound (same l (ascii "TPOW")) (Some TogglePower) _ (λ f. refl)
+    (λ f. choose Sound (same l (ascii "TPMU")) (Some TogglePictureMute) None (λ g. refl) (λ g. refl)))
 
 -- the HDMI buttons have ports of the range, by the table
 code_sound : (p : List ℕ) → Sound (code_order p)
 unfolding code_order ok_input
 code_sound p =
-    choose Sound (is_code p) (pressed (button_of (decimal p))) NotUnderstood (λ e. each_asks (λ (b : Button). sound (pressed b)) refl refl (decimal p)) (λ e. refl)
+    choose Sound (is_code p) (option_map pressed (button_of (decimal p))) None (λ e. each_asks (λ (b : Option Button). fits (option_map pressed b)) refl refl (decimal p)) (λ e. refl)
 
-control_sound : (n : Named) (l p : List ℕ) → Sound (control_by n l p)
+control_sound : (n : Option State) (l p : List ℕ) → Sound (control_by n l p)
 unfolding code_or_toggle
-control_sound (Is s) l p = set_sound s p
-control_sound Nothing l p = choose Sound (same l (ascii "IRCC")) (code_order p) (toggle_of l p) (λ e. code_sound p) (λ e. toggle_sound l p)
+control_sound (Some s) l p = set_sound s p
+control_sound None l p = choose Sound (same l (ascii "IRCC")) (code_order p) (toggle_of l p) (λ e. code_sound p) (λ e. toggle_sound l p)
 
-asked_sound : (n : Named) → Sound (enquiry_by n)
-asked_sound (Is s) = refl
-asked_sound Nothing = refl
+asked_sound : (n : Option State) → Sound (enquiry_by n)
+asked_sound (Some s) = refl
+asked_sound None = refl
 
 enquiry_sound : (l p : List ℕ) → Sound (enquiry_of l p)
 unfolding enquiry_of
-enquiry_sound l p = choose Sound (not (same p blank)) NotUnderstood (enquiry_by (state_named l)) (λ e. refl) (λ e. asked_sound (state_named l))
+enquiry_sound l p = choose Sound (not (same p blank)) None (enquiry_by (state_named l)) (λ e. refl) (λ e. asked_sound (state_named l))
 
-heard_sound : (m : List ℕ) → Sound (heard_of m)
+heard_sound : (m : List ℕ) → sound (heard_of m) ≡ true
 unfolding heard_of control_of
 heard_sound m =
-    choose Sound (not (eqb (length m) 24)) (Refused WrongLength) _ (λ e. refl)
-    (λ e. choose Sound (not (is_ours m)) (Refused NotForUs) _ (λ f. refl)
-    (λ f. choose Sound (eqb (get_or m 2 0) type_control) (control_of (letters_of m) (part 7 16 m)) (enquiry_of (letters_of m) (part 7 16 m)) (λ g. control_sound (state_named (letters_of m)) (letters_of m) (part 7 16 m)) (λ g. enquiry_sound (letters_of m) (part 7 16 m))))
+    let l = letters_of m in
+    let p = part 7 16 m in
+    let S : Result Order Fault → Type 0 = λ h. sound h ≡ true in
+    choose S (not (eqb (length m) 24)) (Err (Refused WrongLength)) _ (λ e. refl)
+    (λ e. choose S (not (is_ours m)) (Err (Refused NotForUs)) _ (λ f. refl)
+    (λ f. sound_or (cond (eqb (get_or m 2 0) type_control) (control_of l p) (enquiry_of l p)) (choose Sound (eqb (get_or m 2 0) type_control) (control_of l p) (enquiry_of l p) (λ g. control_sound (state_named l) l p) (λ g. enquiry_sound l p))))
 
 -- a valid panel, setting by setting
 record Settings (k : KRecord) : Type 0 where
@@ -204,11 +214,11 @@ carried_keeps (SetScene v) k r w =
 carried_keeps Pass k r w = w
 carried_keeps (Ask s) k r w = w
 
-turn_valid : (h : Heard) (k : KRecord) → sound h ≡ true → ok_k k ≡ true → ok_k (decided k h).k ≡ true
+turn_valid : (h : Result Order Fault) (k : KRecord) → sound h ≡ true → ok_k k ≡ true → ok_k (decided k h).k ≡ true
 unfolding decided
-turn_valid (Refused a) k s v = v
-turn_valid NotUnderstood k s v = v
-turn_valid (Understood o) k s v = together (carried o k) (carried_keeps o k s (apart k v))
+turn_valid (Err (Refused a)) k s v = v
+turn_valid (Err NotUnderstood) k s v = v
+turn_valid (Ok o) k s v = together (carried o k) (carried_keeps o k s (apart k v))
 
 -- a valid panel is valid after every message
 pub turned_valid : (m : List ℕ) (k : KRecord) → ok_k k ≡ true → ok_k (turn_of m k).after ≡ true

@@ -1,5 +1,5 @@
 -- Document 01, "KJW (003)", and document 02, §6: what a message does to a K panel's record, and what is sent back.
-use Rattle.std.specs.Prelude.{ℕ, cond, List}
+use Rattle.std.specs.Prelude.{ℕ, cond, List, Result, Ok, Err}
 use Rattle.laws.specs.Bytes.{same}
 use Rattle.terms.specs.declared.Answer.TheVariants.{Done}
 use Rattle.terms.specs.declared.Answer.TheVariants as answers
@@ -12,8 +12,8 @@ use Rattle.kjw_sets.specs.declared.State.{State}
 use Rattle.kjw_sets.specs.declared.State.TheVariants.{Power, AudioMute, PictureMute, Volume, Input}
 use Rattle.kjw_sets.specs.declared.Order.{Order}
 use Rattle.kjw_sets.specs.declared.Order.TheVariants.{SetPower, TogglePower, SetAudioMute, ToggleAudioMute, SetPictureMute, TogglePictureMute, SetVolume, Louder, Softer, SetInput, SetScene, Pass, Ask}
-use Rattle.kjw_sets.specs.declared.Heard.{Heard}
-use Rattle.kjw_sets.specs.declared.Heard.TheVariants.{Refused, NotUnderstood, Understood}
+use Rattle.kjw_asks.specs.declared.Fault.{Fault}
+use Rattle.kjw_asks.specs.declared.Fault.TheVariants.{Refused, NotUnderstood}
 use Rattle.kjw_tells.specs.declared.Reply.{Reply}
 use Rattle.kjw_tells.specs.declared.Reply.TheVariants.{Silent, Rejected, Accepted, Changed, Value}
 use Rattle.kjw.specs.declared.Decided.{Decided}
@@ -42,10 +42,10 @@ reply_of Pass before after = Accepted
 reply_of (Ask s) before after = Value s
 
 -- what the panel does with what it heard
-unfoldable pub decided : KRecord → Heard → Decided
-decided k (Refused a) = record { k = k; answer = a; reply = Silent }
-decided k NotUnderstood = record { k = k; answer = answers.NotUnderstood; reply = Rejected }
-decided k (Understood o) = record { k = carried o k; answer = Done; reply = reply_of o k (carried o k) }
+unfoldable pub decided : KRecord → Result Order Fault → Decided
+decided k (Err (Refused a)) = record { k = k; answer = a; reply = Silent }
+decided k (Err NotUnderstood) = record { k = k; answer = answers.NotUnderstood; reply = Rejected }
+decided k (Ok o) = record { k = carried o k; answer = Done; reply = reply_of o k (carried o k) }
 
 -- what a message comes to: the panel afterwards, the answer and the reply's bytes
 abbrev pub turned : List ℕ → Decided → Turn KRecord

@@ -6,13 +6,12 @@ ghost use Rattle.turns.specs.Turns.{Takes};
 ghost use Rattle.kjw.specs.Orders.{turned_over, louder, softer, carried};
 ghost use Rattle.kjw.specs.Replies.{noticed, reply_of, decided, turn_of};
 
-use kjw_asks::{hear, letters_of};
-use kjw_sets::{Heard, Order, State};
+use kjw_asks::{Fault, hear, letters_of};
+use kjw_sets::{Order, State};
 use kjw_tells::{Reply, send};
 use kjw_values::value_of;
-use octets::same_bytes;
 use panels::{KRecord, MOST_VOLUME};
-use terms::Answer;
+use terms::{Answer, Outcome};
 
 // What a panel does with what it heard.
 #[derive(Clone, Copy)]
@@ -22,78 +21,72 @@ pub struct Decided {
     pub reply: Reply,
 }
 
-// What the door gives back: the panel afterwards, the answer, and the reply's length.
-#[derive(Clone, Copy)]
-pub struct Outcome {
-    pub after: KRecord,
-    pub answer: Answer,
-    pub len: usize,
-}
-
 // A switch turned over.
+#[tactic(auto, unfolding(crate::specs::Orders::turned_over))]
 fn turn_over(v: u8) -> u8
     ensures { result ≡ turned_over v }
 {
-    if v == 0 {
-        return 1;
-    }
-    0
+    u8::from(v == 0)
 }
 
-// A volume one higher, up to its most.
+// A volume one higher, up to its most; one past that stays, so that `min` would not do.
 #[tactic(auto, unfolding(crate::specs::Orders::louder))]
 fn raise(v: u8) -> u8
     ensures { result ≡ louder v }
 {
-    if v < MOST_VOLUME {
-        return v + 1;
-    }
-    v
+    if v < MOST_VOLUME { v + 1 } else { v }
 }
 
 // A volume one lower, down to 0.
+#[tactic(auto, unfolding(crate::specs::Orders::softer))]
 fn lower(v: u8) -> u8
     ensures { result ≡ softer v }
 {
-    if 0 < v {
-        return v - 1;
-    }
-    v
+    v.saturating_sub(1)
 }
 
 // An order carried out.
+#[tactic(auto, unfolding(crate::specs::Orders::carried))]
 fn obey(k: KRecord, o: Order) -> KRecord
     ensures { result ≡ carried o k }
 {
-    let mut x = k;
     match o {
-        Order::SetPower(v) => x.power = v,
-        Order::TogglePower => x.power = turn_over(k.power),
-        Order::SetAudioMute(v) => x.amut = v,
-        Order::ToggleAudioMute => x.amut = turn_over(k.amut),
-        Order::SetPictureMute(v) => x.pmut = v,
-        Order::TogglePictureMute => x.pmut = turn_over(k.pmut),
-        Order::SetVolume(v) => x.volume = v,
-        Order::Louder => x.volume = raise(k.volume),
-        Order::Softer => x.volume = lower(k.volume),
-        Order::SetInput(kind, port) => {
-            x.kind = kind;
-            x.port = port;
-        }
-        Order::SetScene(v) => x.scene = v,
-        Order::Pass => {}
-        Order::Ask(_) => {}
+        Order::SetPower(power) => KRecord { power, ..k },
+        Order::TogglePower => KRecord {
+            power: turn_over(k.power),
+            ..k
+        },
+        Order::SetAudioMute(amut) => KRecord { amut, ..k },
+        Order::ToggleAudioMute => KRecord {
+            amut: turn_over(k.amut),
+            ..k
+        },
+        Order::SetPictureMute(pmut) => KRecord { pmut, ..k },
+        Order::TogglePictureMute => KRecord {
+            pmut: turn_over(k.pmut),
+            ..k
+        },
+        Order::SetVolume(volume) => KRecord { volume, ..k },
+        Order::Louder => KRecord {
+            volume: raise(k.volume),
+            ..k
+        },
+        Order::Softer => KRecord {
+            volume: lower(k.volume),
+            ..k
+        },
+        Order::SetInput(kind, port) => KRecord { kind, port, ..k },
+        Order::SetScene(scene) => KRecord { scene, ..k },
+        Order::Pass | Order::Ask(_) => k,
     }
-    x
 }
 
 // A notice where the value changed.
+#[tactic(auto, using(laws::proofs::Library::same_pointwise), unfolding(crate::specs::Replies::noticed))]
 fn notice_of(s: State, before: KRecord, after: KRecord) -> Reply
     ensures { result ≡ noticed s before after }
 {
-    let old = value_of(s, before);
-    let new = value_of(s, after);
-    if same_bytes(&old, &new) {
+    if value_of(s, before) == value_of(s, after) {
         return Reply::Accepted;
     }
     Reply::Changed(s)
@@ -110,74 +103,62 @@ fn volume_notice(before: KRecord, after: KRecord) -> Reply
 }
 
 // The reply to an order: a scene and a pass have no notice, and an enquiry is answered with its state.
+#[tactic(auto, unfolding(crate::specs::Replies::reply_of))]
 fn reply_of(o: Order, before: KRecord, after: KRecord) -> Reply
     ensures { result ≡ reply_of o before after }
 {
+    let notice = |s| notice_of(s, before, after);
     match o {
-        Order::SetPower(_) => notice_of(State::Power, before, after),
-        Order::TogglePower => notice_of(State::Power, before, after),
-        Order::SetAudioMute(_) => notice_of(State::AudioMute, before, after),
-        Order::ToggleAudioMute => notice_of(State::AudioMute, before, after),
-        Order::SetPictureMute(_) => notice_of(State::PictureMute, before, after),
-        Order::TogglePictureMute => notice_of(State::PictureMute, before, after),
-        Order::SetVolume(_) => volume_notice(before, after),
-        Order::Louder => volume_notice(before, after),
-        Order::Softer => volume_notice(before, after),
-        Order::SetInput(_, _) => notice_of(State::Input, before, after),
-        Order::SetScene(_) => Reply::Accepted,
-        Order::Pass => Reply::Accepted,
+        Order::SetPower(_) | Order::TogglePower => notice(State::Power),
+        Order::SetAudioMute(_) | Order::ToggleAudioMute => notice(State::AudioMute),
+        Order::SetPictureMute(_) | Order::TogglePictureMute => notice(State::PictureMute),
+        Order::SetVolume(_) | Order::Louder | Order::Softer => volume_notice(before, after),
+        Order::SetInput(_, _) => notice(State::Input),
+        Order::SetScene(_) | Order::Pass => Reply::Accepted,
         Order::Ask(s) => Reply::Value(s),
     }
 }
 
 // What the panel does with what it heard.
-fn decide(k: KRecord, h: Heard) -> Decided
-    ensures { result ≡ decided k h }
+#[tactic(auto, unfolding(crate::specs::Replies::decided))]
+fn decide(k: KRecord, heard: Result<Order, Fault>) -> Decided
+    ensures { result ≡ decided k heard }
 {
-    match h {
-        Heard::Refused(answer) => Decided {
+    match heard {
+        Ok(o) => {
+            let after = obey(k, o);
+            Decided {
+                k: after,
+                answer: Answer::Done,
+                reply: reply_of(o, k, after),
+            }
+        }
+        Err(Fault::Refused(answer)) => Decided {
             k,
             answer,
             reply: Reply::Silent,
         },
-        Heard::NotUnderstood => Decided {
+        Err(Fault::NotUnderstood) => Decided {
             k,
             answer: Answer::NotUnderstood,
             reply: Reply::Rejected,
         },
-        Heard::Understood(o) => {
-            let after = obey(k, o);
-            let reply = reply_of(o, k, after);
-            Decided {
-                k: after,
-                answer: Answer::Done,
-                reply,
-            }
-        }
     }
 }
 
 // A message on the KJW link of a K panel.
 #[tactic(auto, using(turns::proofs::Turns::takes_small))]
-pub fn take_frame(k: KRecord, m: &[u8], area: &mut [u8]) -> Outcome
+pub fn take_frame(k: KRecord, m: &[u8], area: &mut [u8]) -> Outcome<KRecord>
     ensures { Takes (turn_of m.now) k area.old result.after result.answer result.len area.new }
 {
     if area.len() < 512 {
-        return Outcome {
-            after: k,
-            answer: Answer::AreaTooSmall,
-            len: 0,
-        };
+        return Outcome::refused(k, Answer::AreaTooSmall);
     }
-    let letters = letters_of(m);
     let turn = decide(k, hear(m));
-    let after = turn.k;
-    let answer = turn.answer;
-    let reply = turn.reply;
-    let len = send(reply, after, letters, area);
+    let len = send(turn.reply, turn.k, letters_of(m), area);
     Outcome {
-        after: after,
-        answer,
+        after: turn.k,
+        answer: turn.answer,
         len,
     }
 }
