@@ -1,14 +1,16 @@
 -- Whether bytes can begin a packet, as the code asks it: of two areas the shorter begins the longer, first of the bytes held, then of the piece.
-use Prim.Native.Nat.{ℕ, ◌-◌, ◌≤◌, ◌<◌}
+use Prim.Native.Nat.{ℕ, ◌-◌, ◌≤◌, ◌<◌, min}
 use native.Mathlib.Omega.{arith}
-use mathlib.Core.Bool.{Bool, true, false, ◌&&◌}
+use mathlib.Core.Bool.{Bool, true, false, ◌&&◌, ◌||◌}
 use mathlib.Core.Path.{◌≡◌, refl, sym, ap, ◌∙◌}
 use mathlib.Core.List.{List, [], ◌∷◌, ◌++◌}
-use lib.ListN.{length, get_or, drop, length-drop, drop_of_length-le}
-use lib.Seq.{drop-cons, drop-append-le}
+use lib.ListN.{length, get_or, take, drop}
 use lib.Dec.{eqb}
 use borrow.Author.Tests.{eq-eqb, ne_eqb, eqb-true, eqb-false}
+use Rattle.std.specs.List.{starts_with}
+use Rattle.std.proofs.lemmas.List.{drop_min}
 use Rattle.laws.specs.Bytes.{begins}
+use Rattle.laws.proofs.Lists.{rest}
 use Rattle.sdcp_asks.specs.Asks.{front}
 use Rattle.receiver.specs.Stream.{agrees, can_begin}
 
@@ -34,12 +36,28 @@ begins_agrees [] (y ∷ m) h = absurd (omega arith)
 begins_agrees (x ∷ l) [] h = refl
 begins_agrees (x ∷ l) (y ∷ m) h = rw (eqb_sym y x, begins_agrees l m (omega arith))
 
--- ---- at a place
+-- so they agree where the one begins with the other
+pub agrees_starts : (l m : List ℕ) → agrees l m ≡ (starts_with eqb l m || starts_with eqb m l)
+unfolding agrees
+agrees_starts [] m = go (starts_with eqb [] m)
+  where
+    go : (b : Bool) → true ≡ (b || true)
+    go true = refl
+    go false = refl
+agrees_starts (x ∷ l) [] = refl
+agrees_starts (x ∷ l) (y ∷ m) = rw (eqb_sym y x, agrees_starts l m) (go (eqb x y) (starts_with eqb l m) (starts_with eqb m l))
+  where
+    go : (b p q : Bool) → (b && (p || q)) ≡ ((b && p) || (b && q))
+    go true p q = refl
+    go false p q = refl
+
+-- ---- the bytes held, and then the piece
 
 -- the first byte that is not 03h begins nothing
-pub other_first : (l : List ℕ) (j : ℕ) → j < length l → (get_or l j 0 ≡ 3 → ⊥) → can_begin (drop j l) ≡ false
+pub other_first : (l : List ℕ) → 0 < length l → (get_or l 0 0 ≡ 3 → ⊥) → eqb (get_or l 0 0) 3 ≡ can_begin l
 unfolding agrees
-other_first l j h n = ap can_begin (drop-cons l j 0 h) ∙ rw (ne_eqb (get_or l j 0) 3 n)
+other_first [] h n = absurd (omega arith)
+other_first (x ∷ l) h n = rw (ne_eqb x 3 n)
 
 agrees_end : (p : List ℕ) → agrees p [] ≡ true
 unfolding agrees
@@ -56,18 +74,10 @@ agrees_append (x ∷ l) k (y ∷ m) = go (eqb x y) (agrees_append l k m)
     go true e = e
     go false e = refl
 
--- the bytes held from j on, and then the piece
-module _ (h p : List ℕ) (j : ℕ) (lt : j < length h) where
-  across : can_begin (drop j (h ++ p)) ≡ (can_begin (drop j h) && agrees p (drop (length h - j) front))
-  across =
-      ap can_begin (drop-append-le j h p (omega arith)) ∙ agrees_append (drop j h) p front
-      ∙ ap (λ (k : ℕ). can_begin (drop j h) && agrees p (drop k front)) (length-drop j h)
+module _ (h p : List ℕ) where
+  pub begins_not : can_begin h ≡ false → false ≡ can_begin (h ++ p)
+  begins_not e = sym (agrees_append h p front ∙ rw e)
 
-  pub across_not : can_begin (drop j h) ≡ false → false ≡ can_begin (drop j (h ++ p))
-  across_not e = sym (across ∙ rw e)
-
-  pub across_whole : can_begin (drop j h) ≡ true → 6 ≤ length h - j → true ≡ can_begin (drop j (h ++ p))
-  across_whole e le = sym (across ∙ rw (e, drop_of_length-le front {i = length h - j} le) (agrees_end p))
-
-  pub across_part : (r : Bool) → can_begin (drop j h) ≡ true → r ≡ agrees p (drop (length h - j) front) → r ≡ can_begin (drop j (h ++ p))
-  across_part r e f = f ∙ sym (across ∙ rw e)
+  pub begins_on : (i : ℕ) (r : Bool) → i ≡ min (length h) 6 → can_begin h ≡ true → r ≡ agrees p (take (6 - i) (drop i front)) → r ≡ can_begin (h ++ p)
+  begins_on i r q e f =
+      f ∙ ap (agrees p) (rest front i ∙ ap (λ (k : ℕ). drop k front) q ∙ drop_min (length h) front) ∙ sym (agrees_append h p front ∙ rw e)

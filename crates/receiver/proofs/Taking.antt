@@ -1,19 +1,19 @@
--- A call as the code makes it: how long what it looks for is, and the record that it gives, whether it holds or hands out.
+-- A call as the code makes it: how long what it looks for is, and what it gives, whether it holds or hands out.
 use Prim.Native.Nat.{ℕ, zero, suc, ◌+◌, ◌-◌, ◌≤◌, ◌<◌}
 use native.Mathlib.Omega.{arith}
 use mathlib.Core.Path.{◌≡◌, refl, sym, ap, subst, ◌∙◌}
-use mathlib.Core.List.{List, [], ◌∷◌, ◌++◌, append-nil}
-use lib.ListN.{length, get_or, take, drop, length-append, length-drop}
-use lib.Seq.{get_or-drop}
+use mathlib.Core.List.{List, [], ◌∷◌, ◌++◌}
+use lib.ListN.{length, get_or, take, drop}
+use lib.Seq.{drop-drop, length-take-le}
 use borrow.Author.Tests.{lt-ltb, le-ltb}
-use Rattle.laws.specs.Bytes.{Sent}
+use Rattle.std.specs.Prelude.{None, Some}
+use Rattle.laws.specs.Bytes.{sent}
 use Rattle.laws.specs.Numbers.{number}
 use Rattle.receiver.specs.declared.Receiver.{Receiver}
 use Rattle.receiver.specs.declared.Received.{Received}
-use Rattle.receiver.specs.Stream.{noise, sought, size, size_of, whole}
-use Rattle.receiver.specs.Calls.{padded, holding, held_in, Given, handed, given, Receives}
-use Rattle.receiver.proofs.Stream.{whole_is, whole_not, size_max}
-use Rattle.receiver.proofs.Parts.{Least, drop_least, both_behind}
+use Rattle.receiver.specs.Stream.{noise, sought, size, size_of, whole, counted}
+use Rattle.receiver.specs.Calls.{holding, held_in, handed, given, Receives}
+use Rattle.receiver.proofs.Stream.{whole_is, whole_not, size_min, size_max}
 
 -- ---- what the header says
 
@@ -21,61 +21,70 @@ pub too_few : (s : List ℕ) → length s < 13 → 0 ≡ whole s
 unfolding whole
 too_few s h = rw (lt-ltb _ _ h)
 
-pub too_long_lem : (s : List ℕ) (k : ℕ) → 13 ≤ length s → k ≡ size s → length s < k → 0 ≡ whole s
+pub too_long : (s : List ℕ) (k : ℕ) → 13 ≤ length s → k ≡ size s → length s < k → 0 ≡ whole s
 unfolding whole
-too_long_lem s k h e lt = rw (le-ltb _ _ h, ← e, lt-ltb _ _ lt)
+too_long s k h e lt = rw (le-ltb _ _ h, ← e, lt-ltb _ _ lt)
 
-pub long_enough : (s : List ℕ) (k : ℕ) → 13 ≤ length s → k ≡ size s → k ≤ length s → k ≡ whole s
+long_enough : (s : List ℕ) (k : ℕ) → 13 ≤ length s → k ≡ size s → k ≤ length s → k ≡ whole s
 unfolding whole
 long_enough s k h e le = rw (le-ltb _ _ h, ← e, le-ltb _ _ le)
 
-pub size_at : (l : List ℕ) (j a b n k : ℕ) → a ≡ get_or l (j + 11) 0 → b ≡ get_or l (j + 12) 0 → n ≡ number (a ∷ b ∷ []) → k ≡ size_of n → k ≡ size (drop j l)
-size_at l j a b n k p q f e =
-    e ∙ ap size_of (f ∙ ap (λ (x : ℕ). number (x ∷ b ∷ [])) (p ∙ sym (get_or-drop j l 11 0)) ∙ ap (λ (x : ℕ). number (get_or (drop j l) 11 0 ∷ x ∷ [])) (q ∙ sym (get_or-drop j l 12 0)))
+pub some_long : (s : List ℕ) (k : ℕ) → 13 ≤ length s → k ≡ size s → k ≤ length s → Some k ≡ counted (whole s)
+some_long s zero h e le = absurd (omega (arith, size_min s))
+some_long s (suc k) h e le = ap counted (long_enough s (suc k) h e le)
 
-pub left_fits : (s : List ℕ) (n : ℕ) → n ≡ whole s → n ≡ 0 → length s ≤ 512
-left_fits s n e z = omega (arith, whole_not s (sym e ∙ z))
+pub size_at : (l : List ℕ) (a b n k : ℕ) → a ≡ get_or l 11 0 → b ≡ get_or l 12 0 → n ≡ number (a ∷ b ∷ []) → k ≡ size_of n → k ≡ size l
+size_at l a b n k p q f e = rw (e, f, p, q) refl
 
-pub packet_fits : (s : List ℕ) (n : ℕ) → n ≡ whole s → (n ≡ 0 → ⊥) → (n ≤ 512) × (n ≤ length s) × (0 < n)
-packet_fits s zero e z = absurd (z refl)
-packet_fits s (suc n) e z = let w = whole_is s n (sym e) in (omega (arith, size_max s, w.sized), w.there, omega arith)
+-- what is not whole fits into a receiver, and what is whole into the packet's area
+pub left_fits : (s : List ℕ) → None ≡ counted (whole s) → length s ≤ 512
+left_fits s e = go (whole s) refl e
+  where
+    go : (n : ℕ) → whole s ≡ n → None ≡ counted n → length s ≤ 512
+    go zero w e = omega (arith, whole_not s w)
+    go (suc n) w e = absurd cc
 
--- ---- nothing is whole: all of it is held
+pub packet_fits : (s : List ℕ) (n : ℕ) → Some n ≡ counted (whole s) → (whole s ≡ n) × (n ≤ 512) × (n ≤ length s) × (0 < n)
+packet_fits s n e = go (whole s) refl e
+  where
+    go : (k : ℕ) → whole s ≡ k → Some n ≡ counted k → (whole s ≡ n) × (n ≤ 512) × (n ≤ length s) × (0 < n)
+    go zero w e = absurd cc
+    go (suc k) w e =
+        let q : n ≡ suc k = cc in
+        let i = whole_is s k w in
+        (w ∙ sym q, omega (arith, size_max s, i.sized, q), omega (arith, i.there, q), omega (arith, q))
 
-pub holds_all : (h p : List ℕ) (j i held : ℕ) (store a b : List ℕ) → Least h j i → a ≡ drop i h → b ≡ drop (j - i) p → store ≡ padded (a ++ b) → held ≡ length h + length p - j
-    → ◌≡◌ {A = Received} (record { after = record { held = held; store = store }; taken = length p; len = 0 }) (record { after = holding (drop j (h ++ p)); taken = length p; len = 0 })
-unfolding holding
-holds_all h p j i held store a b l x y s e =
-    let q : a ++ b ≡ drop j (h ++ p) = ap (◌++ b) x ∙ ap (drop i h ++◌) y ∙ both_behind h p j i l in
-    let k : held ≡ length (drop j (h ++ p)) = e ∙ ap (◌- j) (sym (length-append h p)) ∙ sym (length-drop j (h ++ p)) in
-    rw (k, s ∙ ap padded q)
+-- ---- a call on the bytes held and the piece: j bytes of noise, and then x
 
-pub holds_fit : (h p : List ℕ) (j i : ℕ) → Least h j i → length (drop j (h ++ p)) ≤ 512 → length (drop i h) + length (drop (j - i) p) ≤ 512
-holds_fit h p j i l e =
-    let q = ap length (both_behind h p j i l) in
-    let k = length-append (drop i h) (drop (j - i) p) in
-    omega (arith, q, k, e)
+module _ (h p area : List ℕ) (j : ℕ) (x : List ℕ) (after : Receiver) (q : j ≡ noise (h ++ p)) (b : x ≡ drop j (h ++ p)) where
+  behind_noise : x ≡ sought (h ++ p)
+  behind_noise = b ∙ ap (λ (k : ℕ). drop k (h ++ p)) q
 
--- ---- a packet is handed out, and what is held behind it is held on
+  -- nothing is whole: all of it is held
+  pub takes_none : None ≡ counted (whole x) → after ≡ holding x
+      → Receives (handed (whole (sought (h ++ p))) (noise (h ++ p)) h p) area (record { after = after; taken = length p; len = None }) area
+  unfolding handed
+  takes_none e f = go (whole (sought (h ++ p))) (ap whole (sym behind_noise)) (e ∙ ap (λ (s : List ℕ). counted (whole s)) behind_noise)
+    where
+      go : (k : ℕ) → whole (sought (h ++ p)) ≡ whole x → None ≡ counted k → Receives (handed k (noise (h ++ p)) h p) area (record { after = after; taken = length p; len = None }) area
+      go zero w e = record { after_is = f ∙ ap holding behind_noise; taken_is = refl; len_is = refl; area_is = refl }
+      go (suc k) w e = absurd cc
 
-pub hands_some : (h p area : List ℕ) (j n i held taken len : ℕ) (store a b area' : List ℕ) → 0 < n → Least h (j + n) i → a ≡ drop i h → b ≡ [] → store ≡ padded (a ++ b) → held ≡ length h - i → taken ≡ j + n - i
-    → Sent (take n (drop j (h ++ p))) len area area' → Receives (handed n j h p) area (record { after = record { held = held; store = store }; taken = taken; len = len }) area'
-unfolding handed holding
-hands_some h p area j zero i held taken len store a b area' z l x y s f g t = absurd (omega arith)
-hands_some h p area j (suc n) i held taken len store a b area' z l x y s f g t =
-    let q : a ++ b ≡ drop (j + suc n) h = ap (a ++◌) y ∙ append-nil a ∙ x ∙ drop_least h (j + suc n) i l in
-    let k : held ≡ length (drop (j + suc n) h) = f ∙ l.3 ∙ sym (length-drop (j + suc n) h) in
-    record { after_is = cc (k, s ∙ ap padded q); taken_is = g ∙ l.2; hands = t }
-
--- ---- a call on the bytes held and the piece: j bytes of noise, and n behind them that stand whole
-
-pub takes_from : (h p area area' : List ℕ) (j n : ℕ) (r : Received) → j ≡ noise (h ++ p) → n ≡ whole (drop j (h ++ p)) → Receives (handed n j h p) area r area' → Receives (handed (whole (sought (h ++ p))) (noise (h ++ p)) h p) area r area'
-takes_from h p area area' j n r e w =
-    subst (λ (g : Given). Receives g area r area') (ap (λ (k : ℕ). handed k j h p) w ∙ ap (λ (k : ℕ). handed (whole (drop k (h ++ p))) k h p) e)
-
-pub hands_none : (h p area : List ℕ) (j n : ℕ) (r : Received) → n ≡ 0 → r ≡ record { after = holding (drop j (h ++ p)); taken = length p; len = 0 } → Receives (handed n j h p) area r area
-unfolding handed
-hands_none h p area j n r z q = rw (z, q) (record { after_is = refl; taken_is = refl; hands = record { length_is = refl; area_is = refl } })
+  -- a packet is handed out, and what is held behind it is held on
+  pub takes_some : (n taken : ℕ) (area' : List ℕ) → Some n ≡ counted (whole x) → area' ≡ sent (take n x) area → after ≡ holding (drop n (drop j h)) → taken ≡ j + n - length h
+      → Receives (handed (whole (sought (h ++ p))) (noise (h ++ p)) h p) area (record { after = after; taken = taken; len = Some n }) area'
+  unfolding handed
+  takes_some zero taken area' e s f t = absurd (omega (arith, (packet_fits x zero e).3))
+  takes_some (suc m) taken area' e s f t =
+      let w = packet_fits x (suc m) e in
+      let k : whole (sought (h ++ p)) ≡ suc m = ap whole (sym behind_noise) ∙ w.0 in
+      let l : suc m ≤ length (sought (h ++ p)) = (whole_is (sought (h ++ p)) m k).there in
+      rw k (record {
+        after_is = f ∙ ap holding (drop-drop (suc m) j h ∙ ap (λ (i : ℕ). drop (i + suc m) h) q);
+        taken_is = t ∙ ap (λ (i : ℕ). i + suc m - length h) q;
+        len_is = ap counted (sym (length-take-le (suc m) (sought (h ++ p)) l));
+        area_is = s ∙ ap (λ (v : List ℕ). sent (take (suc m) v) area) behind_noise;
+      })
 
 -- a call on a record is one on the bytes that it holds
 pub takes_held : (r : Receiver) (h p area area' : List ℕ) (g : Received) → h ≡ held_in r → Receives (handed (whole (sought (h ++ p))) (noise (h ++ p)) h p) area g area' → Receives (given r p) area g area'

@@ -1,9 +1,9 @@
 -- Document 02, §1: one call of a receiver.
 use Rattle.std.specs.Prelude.{ℕ, zero, suc, ◌+◌, ◌-◌, ◌≡◌, cond, List, [], ◌++◌, length, take, drop, replicate, leb}
-use Rattle.laws.specs.Bytes.{Sent}
+use Rattle.laws.specs.Bytes.{sent}
 use Rattle.receiver.specs.declared.Receiver.{Receiver}
 use Rattle.receiver.specs.declared.Received.{Received}
-use Rattle.receiver.specs.Stream.{noise, sought, whole}
+use Rattle.receiver.specs.Stream.{noise, sought, whole, counted}
 
 -- "It holds at most 512 bytes": a receiver that holds these, and "its store is 0 behind the bytes held"
 abbrev pub padded : List ℕ → List ℕ
@@ -41,4 +41,5 @@ given r piece = handed (whole (sought (held_in r ++ piece))) (noise (held_in r +
 pub record Receives (g : Given) (area : List ℕ) (r : Received) (area' : List ℕ) : Type 0 where
   pub after_is : r.after ≡ g.after
   pub taken_is : r.taken ≡ g.taken
-  pub hands : Sent g.packet r.len area area'
+  pub len_is : r.len ≡ counted (length g.packet)
+  pub area_is : area' ≡ sent g.packet area

@@ -1,3 +1,4 @@
 pub mod Stream
 pub mod Calls
 pub mod Pieces
+pub mod Both

@@ -1,5 +1,5 @@
 -- Document 02, §1: the bytes that a TCP link delivers, and where a packet stands in them.
-use Rattle.std.specs.Prelude.{ℕ, suc, ◌+◌, Bool, true, cond, ◌&&◌, List, [], ◌∷◌, length, drop, eqb, ltb}
+use Rattle.std.specs.Prelude.{ℕ, zero, suc, ◌+◌, Bool, true, cond, ◌&&◌, List, [], ◌∷◌, length, drop, eqb, ltb, Option, None, Some}
 use Rattle.sdcp_asks.specs.Asks.{front, data_length_of}
 
 -- two byte strings are the same as far as both go
@@ -31,3 +31,8 @@ size l = size_of (data_length_of l)
 -- "with 13 bytes it knows the length": how much stands whole at the front, 0 where it is not whole yet
 unfoldable pub whole : List ℕ → ℕ
 whole l = cond (ltb (length l) 13) 0 (cond (ltb (length l) (size l)) 0 (size l))
+
+-- the same as the code says it: a length, or none
+abbrev pub counted : ℕ → Option ℕ
+counted zero = None
+counted (suc n) = Some (suc n)
