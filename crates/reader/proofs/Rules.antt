@@ -61,10 +61,6 @@ module _ (x : ℕ) (xs : List ℕ) (at : ℕ) (l : Listing) where
 pub rest_long : (l : List ℕ) (k : ℕ) → length (take (length l - k) (drop k l)) ≡ length l - k
 rest_long l k = rw rest (length-drop k l)
 
-pub whole_le : (l : List ℕ) (k : ℕ) → k ≡ whole l → k ≤ length l
-whole_le l zero e = omega arith
-whole_le l (suc k) e = (whole_is l k (sym e)).there
-
 to_noise : (at : ℕ) (a : Listing) (l : List ℕ) → between l at a ≡ between (drop (noise l) l) (at + noise l) a
 unfolding noise
 to_noise at a [] = rw add-zero
@@ -89,27 +85,28 @@ first_is l j e = rw (rest, e) (sought_begins l)
 pub none_left : (at : ℕ) (a : Listing) (l : List ℕ) (j : ℕ) → j ≡ noise l → length l ≤ j → between l at a ≡ ends_at a (at + j)
 none_left at a l j e h = from_noise at a l j e ∙ ap (λ (x : List ℕ). between x (at + j) a) (drop_of_length-le l h) ∙ ended (at + j) a
 
--- where a packet begins, and so much of it is whole
-module _ (at : ℕ) (a : Listing) (l : List ℕ) (k : ℕ) (h : 0 < length l) (e : can_begin l ≡ true) (w : k ≡ whole l) where
-  pub tail_at : k ≡ 0 → between l at a ≡ ends_at a at
-  tail_at z = go l h e w
+-- where a packet begins
+module _ (at : ℕ) (a : Listing) (l : List ℕ) (h : 0 < length l) (e : can_begin l ≡ true) where
+  pub tail_at : whole l ≡ 0 → between l at a ≡ ends_at a at
+  tail_at = go l h e
     where
-      go : (l : List ℕ) → 0 < length l → can_begin l ≡ true → k ≡ whole l → between l at a ≡ ends_at a at
+      go : (l : List ℕ) → 0 < length l → can_begin l ≡ true → whole l ≡ 0 → between l at a ≡ ends_at a at
       go [] h e w = absurd (omega arith)
-      go (x ∷ l) h e w = tailed x l at a e (sym w ∙ z)
+      go (x ∷ l) h e w = tailed x l at a e w
 
-  pub stop_at : (k ≡ 0 → ⊥) → 64 ≤ a.count → between l at a ≡ stops_at a at
-  stop_at z f = go l k h e w z
+  -- and k bytes of it are whole
+  pub stop_at : (k : ℕ) → whole l ≡ k → 0 < k → 64 ≤ a.count → between l at a ≡ stops_at a at
+  stop_at k w z f = go l k h e w z
     where
-      go : (l : List ℕ) (k : ℕ) → 0 < length l → can_begin l ≡ true → k ≡ whole l → (k ≡ 0 → ⊥) → between l at a ≡ stops_at a at
+      go : (l : List ℕ) (k : ℕ) → 0 < length l → can_begin l ≡ true → whole l ≡ k → 0 < k → between l at a ≡ stops_at a at
       go [] k h e w z = absurd (omega arith)
-      go (x ∷ l) zero h e w z = absurd (z refl)
-      go (x ∷ l) (suc k) h e w z = stopped x l at a k e (sym w) f
+      go (x ∷ l) zero h e w z = absurd (omega arith)
+      go (x ∷ l) (suc k) h e w z = stopped x l at a k e w f
 
-  pub note_at : (f : Listing) → (k ≡ 0 → ⊥) → a.count < 64 → f ≡ between (take (length l - k) (drop k l)) (at + k) (noted_of a at k) → f ≡ between l at a
-  note_at f z r g = (rw rest at g) ∙ sym (go l k h e w z)
+  pub note_at : (k : ℕ) (f : Listing) → whole l ≡ k → 0 < k → a.count < 64 → f ≡ between (take (length l - k) (drop k l)) (at + k) (noted_of a at k) → f ≡ between l at a
+  note_at k f w z r g = (rw rest at g) ∙ sym (go l k h e w z)
     where
-      go : (l : List ℕ) (k : ℕ) → 0 < length l → can_begin l ≡ true → k ≡ whole l → (k ≡ 0 → ⊥) → between l at a ≡ between (drop k l) (at + k) (noted_of a at k)
+      go : (l : List ℕ) (k : ℕ) → 0 < length l → can_begin l ≡ true → whole l ≡ k → 0 < k → between l at a ≡ between (drop k l) (at + k) (noted_of a at k)
       go [] k h e w z = absurd (omega arith)
-      go (x ∷ l) zero h e w z = absurd (z refl)
-      go (x ∷ l) (suc k) h e w z = noted x l at a k e (sym w) r
+      go (x ∷ l) zero h e w z = absurd (omega arith)
+      go (x ∷ l) (suc k) h e w z = noted x l at a k e w r

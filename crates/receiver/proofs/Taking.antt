@@ -37,12 +37,15 @@ pub size_at : (l : List ℕ) (a b n k : ℕ) → a ≡ get_or l 11 0 → b ≡ g
 size_at l a b n k p q f e = rw (e, f, p, q) refl
 
 -- what is not whole fits into a receiver, and what is whole into the packet's area
-pub left_fits : (s : List ℕ) → None ≡ counted (whole s) → length s ≤ 512
-left_fits s e = go (whole s) refl e
+pub none_whole : (s : List ℕ) → None ≡ counted (whole s) → whole s ≡ 0
+none_whole s e = go (whole s) e
   where
-    go : (n : ℕ) → whole s ≡ n → None ≡ counted n → length s ≤ 512
-    go zero w e = omega (arith, whole_not s w)
-    go (suc n) w e = absurd cc
+    go : (n : ℕ) → None ≡ counted n → n ≡ 0
+    go zero e = refl
+    go (suc n) e = absurd cc
+
+pub left_fits : (s : List ℕ) → None ≡ counted (whole s) → length s ≤ 512
+left_fits s e = omega (arith, whole_not s (none_whole s e))
 
 pub packet_fits : (s : List ℕ) (n : ℕ) → Some n ≡ counted (whole s) → (whole s ≡ n) × (n ≤ 512) × (n ≤ length s) × (0 < n)
 packet_fits s n e = go (whole s) refl e

@@ -4,4 +4,4 @@ use Rattle.reader.proofs.read_plain.Goals as goal
 
 pub returns : goal.returns
 unfolding plain no_entries
-returns c = c.between_packets-s.ensures
+returns c = c.between_packets.ensures
