@@ -7,9 +7,11 @@ use mathlib.Core.List.{List, [], ◌∷◌, ◌++◌}
 use lib.ListN.{length, drop, length-append, get_or-append}
 use lib.Dec.{eqb, ltb}
 use borrow.Author.Tests.{le-ltb, ltb-true, ltb-false}
+use Rattle.std.specs.Prelude.{Option}
+use Rattle.std.specs.Option.{unwrap_or}
 use Rattle.laws.proofs.Conditions.{false_true}
 use Rattle.sdcp_asks.specs.Asks.{front, data_length_of}
-use Rattle.receiver.specs.Stream.{agrees, can_begin, noise, sought, size, size_of, whole}
+use Rattle.receiver.specs.Stream.{agrees, can_begin, noise, sought, size, size_of, whole, counted}
 
 -- ---- as far as both go
 
@@ -154,3 +156,16 @@ sought_whole l m n e =
     let a : length front ≤ length (sought l) = omega arith in
     let q : noise (sought l ++ m) ≡ 0 = noise_none (sought l ++ m) (agrees_long (sought l) m front a ∙ sought_begins l) in
     sought_more l m ∙ ap (λ (j : ℕ). drop j (sought l ++ m)) q
+
+-- ---- a length, or none
+
+pub counted_one : (m n : ℕ) → counted m ≡ counted n → m ≡ n
+counted_one zero zero e = refl
+counted_one zero (suc n) e = absurd cc
+counted_one (suc m) zero e = absurd cc
+counted_one (suc m) (suc n) e = cc
+
+-- 0 where there is none is the same length
+pub counted_back : (o : Option ℕ) (n : ℕ) → o ≡ counted n → counted (unwrap_or o 0) ≡ counted n
+counted_back o zero e = rw e
+counted_back o (suc n) e = rw e
