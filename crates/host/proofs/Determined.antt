@@ -1,5 +1,5 @@
 -- Each promise to the C host allows one outcome: its equations have the same right sides.
-use mathlib.Core.Path.{◌≡◌, sym, ap, ◌∙◌}
+use mathlib.Core.Path.{◌≡◌, refl, sym, ap, ◌∙◌}
 use mathlib.Core.Bool.{Bool}
 use mathlib.Core.List.{List}
 use Prim.Native.Nat.{ℕ}
@@ -15,6 +15,7 @@ use Rattle.receiver.specs.declared.Receiver.{Receiver}
 use Rattle.receiver.specs.declared.Received.{Received}
 use Rattle.receiver.specs.Calls.{Given, Receives}
 use Rattle.receiver.proofs.Determined.{take_piece_one}
+use Rattle.receiver.proofs.Stream.{counted_one}
 use Rattle.reader.specs.declared.Listing.{Listing}
 use Rattle.reader.specs.Plain.{plain}
 use Rattle.host_box.specs.Called.{Called, panel_behind}
@@ -43,7 +44,9 @@ box_panel_at_one b link p p' e f = e ∙ sym f
 pub box_receive_one : (g : Given) (area : List ℕ) (r r' : Receiver) (h h' : Handed) (x x' : List ℕ) → Receives g area (received_of r h) x → Receives g area (received_of r' h') x' → (r ≡ r') × ((h ≡ h') × (x ≡ x'))
 box_receive_one g area r r' h h' x x' p q =
     let o = take_piece_one g area (received_of r h) (received_of r' h') x x' p q in
-    (ap (λ (t : Received). t.after) o.0, (ap (λ (t : Received). record { taken = t.taken; len = t.len }) o.0, o.1))
+    let t = ap (λ (t : Received). t.taken) o.0 in
+    let n = counted_one h.len h'.len (ap (λ (t : Received). t.len) o.0) in
+    (ap (λ (t : Received). t.after) o.0, (rw (t, n) refl, o.1))
 
 pub box_plain_one : (b : List ℕ) (l l' : Listing) (r r' : ℕ) → (l ≡ plain b) × (r ≡ number_of Done) → (l' ≡ plain b) × (r' ≡ number_of Done) → (l ≡ l') × (r ≡ r')
 box_plain_one b l l' r r' p q = (p.0 ∙ sym q.0, p.1 ∙ sym q.1)

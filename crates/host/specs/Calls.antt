@@ -6,6 +6,7 @@ use Rattle.sdap.specs.Rules.{write_answer, area_after}
 use Rattle.sdap.specs.declared.Advert.{Advert}
 use Rattle.receiver.specs.declared.Receiver.{Receiver}
 use Rattle.receiver.specs.declared.Received.{Received}
+use Rattle.receiver.specs.Stream.{counted}
 use Rattle.host_box.specs.Called.{Called}
 use Rattle.host.specs.declared.Outcome.{Outcome}
 use Rattle.host.specs.declared.Handed.{Handed}
@@ -25,6 +26,6 @@ pub record WrittenForC (a : Advert) (area : List ℕ) (r : ℕ) (area' : List �
 abbrev pub outcome_for_c : Called → Outcome
 outcome_for_c c = record { answer = c.answer; place = c.place; len = c.len }
 
--- what a call on a piece gives, where the receiver after it lies in the host's memory
+-- what a call on a piece gives, where the receiver after it lies in the host's memory, and a length of 0 is nothing
 abbrev pub received_of : Receiver → Handed → Received
-received_of r h = record { after = r; taken = h.taken; len = h.len }
+received_of r h = record { after = r; taken = h.taken; len = counted h.len }

@@ -75,7 +75,8 @@ pub extern "C" fn box_panel_at(b: &DisplayBox, link: usize, panel: &mut Panel)
     *panel = p;
 }
 
-// What the host is told of a piece: how many of its bytes were taken, and the length of what is handed out, 0 for nothing.
+// What the host is told of a piece: how many of its bytes were taken, and the length of what is handed out, 0 for nothing. Numbers, for the
+// C host reads them.
 #[repr(C)]
 #[derive(Clone, Copy)]
 pub struct Handed {
@@ -92,7 +93,7 @@ pub extern "C" fn box_receive(r: &mut Receiver, piece: &[u8], packet: &mut [u8; 
     *r = t.after;
     Handed {
         taken: t.taken,
-        len: t.len,
+        len: t.len.unwrap_or(0),
     }
 }
 
