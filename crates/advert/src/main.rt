@@ -7,16 +7,14 @@ use sdap::{Advert, text_length};
 use sdap_read::read_advert;
 use std::io;
 use std::io::{Read, Write};
-use terms::answer_number;
+use terms::Answer;
 
-// Reads once, and answers how many bytes came: none where the input has ended, or cannot be read.
+// Reads once, and answers how many bytes came: none where the input has ended, or cannot be read. The program replay has a copy of its
+// own: a library for one line would be no plainer.
 fn read_some(input: &mut impl Read, area: &mut [u8]) -> usize
     ensures { result ≤ length area.old }
 {
-    match input.read(area) {
-        Ok(n) => n,
-        Err(_) => 0,
-    }
+    input.read(area).unwrap_or(0)
 }
 
 // As much of an advert as the input begins with: an advert has 122 bytes, so the 123rd is all that need be known of a longer input.
@@ -41,11 +39,12 @@ fn drop_some(input: &mut impl Read) -> bool {
 }
 
 // Drops what is left of the input. A proved loop has to end, and nothing says that the input does: so the turns are
-// counted down from a number that no run uses up.
+// counted up to a number that no run reaches.
 fn drop_all(input: &mut impl Read) {
-    let mut turns = u64::MAX;
-    while turns > 0 && drop_some(input) {
-        turns -= 1;
+    for _ in 0..u64::MAX {
+        if !drop_some(input) {
+            break;
+        }
     }
 }
 
@@ -63,9 +62,9 @@ fn print_product(out: &mut impl Write, product: [u8; 12]) -> io::Result<()> {
 
 fn print_advert(out: &mut impl Write, a: Advert) -> io::Result<()> {
     print_product(out, a.product)?;
-    print_line(out, b"serial ", a.serial as u64)?;
-    print_line(out, b"group ", a.group.0 as u64)?;
-    print_line(out, b"unit ", a.unit.0 as u64)
+    print_line(out, b"serial ", a.serial.into())?;
+    print_line(out, b"group ", a.group.0.into())?;
+    print_line(out, b"unit ", a.unit.0.into())
 }
 
 fn main(rt: HostRuntime) -> io::Result<()> {
@@ -75,9 +74,8 @@ fn main(rt: HostRuntime) -> io::Result<()> {
     let n = read_front(&mut input, &mut front);
     drop_all(&mut input);
     let read = read_advert(&front[..n]);
-    let number = answer_number(read.answer);
-    if number != 0 {
-        return print_line(&mut out, b"refused ", number as u64);
+    if read.answer != Answer::Done {
+        return print_line(&mut out, b"refused ", read.answer.number().into());
     }
     print_advert(&mut out, read.fields)
 }
