@@ -19,13 +19,11 @@ fn put_panels(line: &[u8], n: usize, area: &mut [u8]) -> usize
     requires { (n ≤ 16) × (n * 3 ≤ length area.old) }
     ensures { Sent (configuration n 1 line.now) result area.old area.new }
 {
-    let mut i = 0;
-    while i < n {
+    for i in 0..n {
         let k = i * 3;
         area[k] = letter_at(line, k + 1);
         area[k + 1] = number_at(line, k + 2, 255) as u8;
         area[k + 2] = number_at(line, k + 3, 255) as u8;
-        i += 1;
     }
     n * 3
 }

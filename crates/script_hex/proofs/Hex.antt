@@ -1,4 +1,4 @@
--- A word that is not a lone `-` is HEX by its length and its digits.
+-- Two areas are told apart byte for byte: a word that is not a lone `-` is HEX by its length and its digits.
 use Prim.Native.Nat.{◌%◌, ℕ}
 use mathlib.Core.Bool.{Bool, ◌&&◌, false}
 use mathlib.Core.List.{List, [], ◌∷◌}
@@ -10,7 +10,8 @@ use Rattle.laws.specs.Bytes.{ascii, same}
 use Rattle.laws.specs.Lists.{every}
 use Rattle.script_hex.specs.Hex.{is_hex, is_hex_digit}
 
-same_bytes : (a b : List ℕ) → same a b ≡ pointwise eqb a b
+-- the library's test of two areas is the definition's
+pub same_bytes : (a b : List ℕ) → same a b ≡ pointwise eqb a b
 same_bytes [] [] = refl
 same_bytes [] (y ∷ b) = refl
 same_bytes (x ∷ a) [] = refl

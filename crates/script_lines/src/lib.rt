@@ -1,13 +1,11 @@
-// Which order a line of a script is, and the configuration that a `box` line writes (docs/SCRIPTS.md, "Orders").
+// Which order a line of a script is (docs/SCRIPTS.md, "Orders").
 #![tactic(auto)]
 
-ghost use Rattle.std.specs.Prelude.{map, ◌≡◌, ◌*◌};
-ghost use Rattle.script_words.specs.KindNumbers.{kind_of};
-ghost use Rattle.script_lines.specs.Orders.{asks, panel_kinds, asks_box, order_rows, order_in, is_passed_over, order_of};
+ghost use Rattle.std.specs.Prelude.{map, ◌≡◌};
+ghost use Rattle.script_lines.specs.Orders.{asks, asks_box, order_in, order_rows, lent, is_passed_over, order_of};
 
-use octets::same_bytes;
 use script_boxes::panels_in;
-use script_words::{ANY, AREA, FAMILY, HEX, LINK, are_shaped, length_before};
+use script_words::{ANY, AREA, Kind, are_shaped, word_at};
 
 // The orders on the box alone. A line that is passed over and one that is no order count among them.
 #[derive(Clone, Copy)]
@@ -33,163 +31,130 @@ pub enum Order {
     Piece,
 }
 
-// The words of sixteen panels.
-const PANELS: [u32; 48] = [
-    FAMILY, 255, // group
-    255, // unit
-    FAMILY, 255, // group
-    255, // unit
-    FAMILY, 255, // group
-    255, // unit
-    FAMILY, 255, // group
-    255, // unit
-    FAMILY, 255, // group
-    255, // unit
-    FAMILY, 255, // group
-    255, // unit
-    FAMILY, 255, // group
-    255, // unit
-    FAMILY, 255, // group
-    255, // unit
-    FAMILY, 255, // group
-    255, // unit
-    FAMILY, 255, // group
-    255, // unit
-    FAMILY, 255, // group
-    255, // unit
-    FAMILY, 255, // group
-    255, // unit
-    FAMILY, 255, // group
-    255, // unit
-    FAMILY, 255, // group
-    255, // unit
-    FAMILY, 255, // group
-    255, // unit
-    FAMILY, 255, // group
-    255, // unit
+// The words of a panel: its family, its group and its unit.
+const PANEL: [Kind; 3] = [Kind::Family, Kind::Number(255), Kind::Number(255)];
+
+// "LINK AREA HEX"
+const MESSAGE: [Kind; 3] = [Kind::Number(ANY), Kind::Number(AREA), Kind::Hex];
+
+// "AREA CATEGORY PRODUCT SERIAL POWER LOCATION IP IP1 IP2 IP3 IP4 ERROR REGION NAME GROUP UNIT"
+const WRITE: [Kind; 16] = [
+    Kind::Number(AREA),
+    Kind::Number(255),
+    Kind::Hex,
+    Kind::Number(ANY),
+    Kind::Number(65535),
+    Kind::Hex,
+    Kind::Number(ANY),
+    Kind::Number(ANY),
+    Kind::Number(ANY),
+    Kind::Number(ANY),
+    Kind::Number(ANY),
+    Kind::Number(65535),
+    Kind::Hex,
+    Kind::Hex,
+    Kind::Number(255),
+    Kind::Number(255),
 ];
 
-// The rows of the other orders: a row is a word, the kinds of the words behind it, and the order that it is. The words stand one
-// behind the other, and so do the kinds.
-const ORDERS: [Order; 10] = [
-    Order::OnBox(BoxOrder::Rs232),
-    Order::OnBox(BoxOrder::Kjw),
-    Order::OnBox(BoxOrder::Tcp),
-    Order::OnBox(BoxOrder::Udp),
-    Order::OnBox(BoxOrder::Show),
-    Order::OnBox(BoxOrder::Advert),
-    Order::OnBox(BoxOrder::Write),
-    Order::OnBox(BoxOrder::Sum),
-    Order::Piece,
-    Order::OnBox(BoxOrder::Plain),
-];
-
-const WORDS: [u8; 42] = *b"rs232\
-    kjw\
-    tcp\
-    udp\
-    show\
-    advert\
-    write\
-    sum\
-    piece\
-    plain";
-
-// Where each word ends, behind a 0 where the first begins.
-const WORD_ENDS: [usize; 11] = [0, 5, 8, 11, 14, 18, 24, 29, 32, 37, 42];
-
-const KINDS: [u32; 33] = [
-    ANY, // rs232: LINK
-    AREA, HEX, ANY, // kjw: LINK
-    AREA, HEX, ANY, // tcp: LINK
-    AREA, HEX, HEX, // udp
-    ANY, // show: LINK
-    HEX, // advert
-    AREA, // write
-    255, // CATEGORY
-    HEX, // PRODUCT
-    ANY, // SERIAL
-    65535, // POWER
-    HEX, // LOCATION
-    ANY, // IP
-    ANY, // IP1
-    ANY, // IP2
-    ANY, // IP3
-    ANY, // IP4
-    65535, // ERROR
-    HEX, // REGION
-    HEX, // NAME
-    255, // GROUP
-    255, // UNIT
-    HEX, // sum
-    LINK, // piece
-    AREA, HEX, HEX, // plain
-];
-
-// The same for the kinds.
-const KIND_ENDS: [usize; 11] = [0, 3, 6, 9, 10, 11, 12, 28, 29, 32, 33];
-
-// Whether a line is the order of that word, with a word of each kind behind it.
-fn is_asked(line: &[u8], word: &[u8], kinds: &[u32]) -> bool
-    ensures { result ≡ asks word.now (map kind_of kinds.now) line.now }
-{
-    let n = length_before(b' ', line);
-    if !same_bytes(&line[..n], word) {
-        return false;
-    }
-    are_shaped(line, kinds)
+// The rows of the other orders: a row is a word, the kinds of the words behind it, and the order that it is.
+struct Row {
+    word: &'static [u8],
+    kinds: &'static [Kind],
+    order: Order,
 }
 
-// The kinds of sixteen panels' words.
-fn panel_kinds() -> [u32; 48]
-    ensures { map kind_of result ≡ panel_kinds 16 }
+const ROWS: [Row; 10] = [
+    Row {
+        word: b"rs232",
+        kinds: &MESSAGE,
+        order: Order::OnBox(BoxOrder::Rs232),
+    },
+    Row {
+        word: b"kjw",
+        kinds: &MESSAGE,
+        order: Order::OnBox(BoxOrder::Kjw),
+    },
+    Row {
+        word: b"tcp",
+        kinds: &MESSAGE,
+        order: Order::OnBox(BoxOrder::Tcp),
+    },
+    Row {
+        word: b"udp",
+        kinds: &[Kind::Hex],
+        order: Order::OnBox(BoxOrder::Udp),
+    },
+    Row {
+        word: b"show",
+        kinds: &[Kind::Number(ANY)],
+        order: Order::OnBox(BoxOrder::Show),
+    },
+    Row {
+        word: b"advert",
+        kinds: &[Kind::Hex],
+        order: Order::OnBox(BoxOrder::Advert),
+    },
+    Row {
+        word: b"write",
+        kinds: &WRITE,
+        order: Order::OnBox(BoxOrder::Write),
+    },
+    Row {
+        word: b"sum",
+        kinds: &[Kind::Hex],
+        order: Order::OnBox(BoxOrder::Sum),
+    },
+    Row {
+        word: b"piece",
+        kinds: &[Kind::Link, Kind::Number(AREA), Kind::Hex],
+        order: Order::Piece,
+    },
+    Row {
+        word: b"plain",
+        kinds: &[Kind::Hex],
+        order: Order::OnBox(BoxOrder::Plain),
+    },
+];
+
+// Whether a line is the order of that word, with a word of each kind behind it.
+#[tactic(auto, unfolding(crate::specs::Orders::asks))]
+fn is_asked(line: &[u8], word: &[u8], kinds: &[Kind]) -> bool
+    ensures { result ≡ asks word.now kinds.now line.now }
 {
-    PANELS
+    word_at(line, 0) == word && are_shaped(line, kinds)
 }
 
 fn is_box(line: &[u8]) -> bool
     ensures { result ≡ asks_box line.now }
 {
     let n = panels_in(line);
-    if 16 < n {
-        return false;
-    }
-    let kinds = panel_kinds();
-    let count = n * 3;
-    is_asked(line, b"box", &kinds[..count])
+    n <= 16 && is_asked(line, b"box", [PANEL; 16][..n].as_flattened())
 }
 
-// The first row that the line is, and `unread` where it is none. The tables are named once, before the loop: each naming builds
-// one anew.
-fn order_in(line: &[u8]) -> Order
-    ensures { result ≡ order_in order_rows line.now }
+// The first of the rows that the line is, and `unread` where it is none.
+fn first_of(rows: &[Row], line: &[u8]) -> Order
+    ensures { result ≡ order_in (map lent rows.now) line.now }
 {
-    let words = WORDS;
-    let word_ends = WORD_ENDS;
-    let kinds = KINDS;
-    let kind_ends = KIND_ENDS;
-    let orders = ORDERS;
-    let mut i = 0;
-    while i < 10 {
-        let a = word_ends[i];
-        let b = word_ends[i + 1];
-        let c = kind_ends[i];
-        let d = kind_ends[i + 1];
-        if is_asked(line, &words[a..b], &kinds[c..d]) {
-            return orders[i];
+    for row in rows {
+        if is_asked(line, row.word, row.kinds) {
+            return row.order;
         }
-        i += 1;
     }
     Order::OnBox(BoxOrder::Unread)
 }
 
+fn order_in(line: &[u8]) -> Order
+    ensures { result ≡ order_in order_rows line.now }
+{
+    first_of(&ROWS, line)
+}
+
+#[tactic(auto, using(std::proofs::lemmas::Bool::Decides::nat_tests), unfolding(crate::specs::Orders::is_passed_over))]
 fn is_passed_over(line: &[u8]) -> bool
     ensures { result ≡ is_passed_over line.now }
 {
-    if line.len() == 0 {
-        return true;
-    }
-    line[0] == b'#'
+    matches!(line, [] | [b'#', ..])
 }
 
 // Which order a line is.

@@ -2,17 +2,51 @@
 use mathlib.Core.Path.{◌≡◌, refl, sym, ap, subst, ◌∙◌}
 use mathlib.Core.Bool.{Bool, true, false}
 use mathlib.Core.List.{List, [], ◌∷◌, ◌++◌, append-nil, append_assoc}
-use Prim.Native.Nat.{ℕ, suc, ◌+◌, ◌-◌, ◌<◌, ◌≤◌}
+use Prim.Native.Nat.{ℕ, suc, ◌+◌, ◌-◌, ◌<◌, ◌≤◌, min}
 use native.Mathlib.Omega.{arith}
 use native.Mathlib.Nat.{add-zero}
 use native.Mathlib.Numerals.{add-one}
 use lib.Dec.{leb}
 use lib.ListN.{length, take, drop, set, length-append, length-take, length-drop, take-append-drop}
-use lib.Seq.{take_all, take-nil, take-append-le, take-append-add, length-take-le, set_split, append_snoc}
+use lib.Seq.{drop-drop, take_all, take-nil, take-append-le, take-append-add, length-take-le, set_split, append_snoc}
 use borrow.Author.Tests.{leb-true, leb-false}
+use borrow.Rule.Slice.PartMut.{put_mid}
 use Rattle.laws.specs.Bytes.{over}
 use Rattle.laws.proofs.Areas.{laid_next}
 use Rattle.script_text.specs.Puts.{written, behind, Puts}
+
+-- no text
+pub puts_none : (d : List ℕ) (n : ℕ) → Puts [] d n d n
+unfolding written behind
+puts_none d n =
+    let z : take {A = ℕ} (length d - n) [] ≡ [] = take-nil (length d - n) in
+    record { area_is = sym (rw (z, append-nil, add-zero) (take-append-drop n d)); next_is = sym (rw z (add-zero n)) }
+
+pub written_none : (d : List ℕ) (n : ℕ) → written d n [] ≡ d
+written_none d n = sym (puts_none d n).area_is
+
+pub behind_none : (d : List ℕ) (n : ℕ) → behind d n [] ≡ n
+behind_none d n = sym (puts_none d n).next_is
+
+either : {P : Type 0} (m n : ℕ) → (m ≤ n → P) → (n < m → P) → P
+either {P} m n f g = go (leb m n) refl
+  where
+    go : (b : Bool) → leb m n ≡ b → P
+    go true e = f (leb-true m n e)
+    go false e = g (leb-false m n e)
+
+-- what there is room for, copied
+pub puts_front : {t d e : List ℕ} {n m j k : ℕ} → n < length d → m ≡ min (length t) (length d - n) → j ≡ m → k ≡ m → e ≡ take k t → Puts t d n (put_mid n j d e) (n + m)
+unfolding written behind
+puts_front {t} {d} {e} {n} {m} {j} {k} h q a b c =
+    let r = take (length d - n) t in
+    let front : take k t ≡ r = either (length t) (length d - n) (λ l. take_all k t (omega arith) ∙ sym (take_all (length d - n) t l)) (λ l. ap (λ (i : ℕ). take i t) (omega arith)) in
+    let size : m ≡ length r = simp length-take (omega arith) in
+    let here : j ≡ length r = a ∙ size in
+    record {
+      area_is = ap (λ (x : List ℕ). take n d ++ (x ++ drop j (drop n d))) (c ∙ front) ∙ ap (λ (i : ℕ). take n d ++ (r ++ drop i (drop n d))) here ∙ ap (λ (x : List ℕ). take n d ++ (r ++ x)) (drop-drop (length r) n d) ∙ sym (append_assoc (take n d) r (drop (n + length r) d));
+      next_is = ap (λ (i : ℕ). n + i) size;
+    }
 
 -- at or past the end nothing is put
 pub puts_outside : (t d : List ℕ) (n : ℕ) → length d ≤ n → Puts t d n d n
@@ -42,19 +76,6 @@ unfolding behind
 puts_cut {t} {d} {e} {n} p h k =
     let size : length (take (length d - n) t) ≡ length d - n = length-take-le (length d - n) t (omega arith) in
     p.next_is ∙ rw size (omega arith)
-
-pub puts_none : (d : List ℕ) (n : ℕ) → Puts [] d n d n
-unfolding written behind
-puts_none d n =
-    let z : take {A = ℕ} (length d - n) [] ≡ [] = take-nil (length d - n) in
-    record { area_is = sym (rw (z, append-nil, add-zero) (take-append-drop n d)); next_is = sym (rw z (add-zero n)) }
-
-either : {P : Type 0} (m n : ℕ) → (m ≤ n → P) → (n < m → P) → P
-either {P} m n f g = go (leb m n) refl
-  where
-    go : (b : Bool) → leb m n ≡ b → P
-    go true e = f (leb-true m n e)
-    go false e = g (leb-false m n e)
 
 -- the area keeps its length
 pub puts_length : {t d e : List ℕ} {n r : ℕ} → Puts t d n e r → length e ≡ length d
@@ -102,13 +123,6 @@ puts_then {s} {t} {d} {e} {f} {n} p q =
     either n (length d)
     (λ h. either (n + length s) (length d) (then_room p q) (λ k. then_cut p q h (omega arith)))
     (λ h. then_outside p q (omega arith))
-
--- one byte
-pub puts_byte : (d : List ℕ) (n x : ℕ) → n < length d → Puts (x ∷ []) d n (set d n x) (n + 1)
-unfolding written behind
-puts_byte d n x h =
-    let all : take (length d - n) (x ∷ []) ≡ x ∷ [] = take_all (length d - n) (x ∷ []) (omega arith) in
-    record { area_is = rw (all, add-one) (set_split d n x h ∙ sym (append_snoc (take n d) x (drop (suc n) d))); next_is = sym (rw all) }
 
 -- a whole text, of which a front is put and a rest is left
 pub record Underway (whole rest d : List ℕ) (n : ℕ) (e : List ℕ) (r : ℕ) : Type 0 where

@@ -16,16 +16,11 @@ pub const FILLER: u8 = 165;
 pub fn put(out: &mut [u8], at: usize, text: &[u8]) -> usize
     ensures { Puts text.now out.old at out.new result }
 {
-    let mut to = at;
-    let mut i = 0;
-    while i < text.len() {
-        if out.len() <= to {
-            return to;
-        }
-        out[to] = text[i];
-        to += 1;
-        i += 1;
+    if out.len() <= at {
+        return at;
     }
+    let to = at + text.len().min(out.len() - at);
+    out[at..to].copy_from_slice(&text[..to - at]);
     to
 }
 
@@ -34,11 +29,8 @@ pub fn put_number(out: &mut [u8], at: usize, v: u32) -> usize
     ensures { Puts (plain v) out.old at out.new result }
 {
     let mut to = at;
-    let mut left = width_of(v);
-    while left > 0 {
-        left -= 1;
-        let digit = [digit_at(v, left)];
-        to = put(out, to, &digit);
+    for left in (0..width_of(v)).rev() {
+        to = put(out, to, &[digit_at(v, left)]);
     }
     to
 }
@@ -48,10 +40,10 @@ fn glyph_of(d: u8) -> u8
     requires { d < 16 }
     ensures { result ≡ glyph d }
 {
-    if d < 10 {
-        return b'0' + d;
+    match d {
+        0..=9 => b'0' + d,
+        _ => b'A' - 10 + d,
     }
-    b'A' - 10 + d
 }
 
 // Two hex digits for each byte.
@@ -59,12 +51,8 @@ fn put_pairs(out: &mut [u8], at: usize, bytes: &[u8]) -> usize
     ensures { Puts (pairs bytes.now) out.old at out.new result }
 {
     let mut to = at;
-    let mut i = 0;
-    while i < bytes.len() {
-        let b = bytes[i];
-        let pair = [glyph_of(b / 16), glyph_of(b % 16)];
-        to = put(out, to, &pair);
-        i += 1;
+    for b in bytes {
+        to = put(out, to, &[glyph_of(b / 16), glyph_of(b % 16)]);
     }
     to
 }
@@ -72,7 +60,7 @@ fn put_pairs(out: &mut [u8], at: usize, bytes: &[u8]) -> usize
 fn put_hex(out: &mut [u8], at: usize, bytes: &[u8]) -> usize
     ensures { Puts (hex_text bytes.now) out.old at out.new result }
 {
-    if bytes.len() == 0 {
+    if bytes.is_empty() {
         return put(out, at, b"-");
     }
     put_pairs(out, at, bytes)
@@ -105,13 +93,22 @@ fn put_spoiled(out: &mut [u8], at: usize, rest: &[u8]) -> usize
 }
 
 // "`answer A at P` where P is not 0": the place that goes with an answer.
+#[tactic(
+    auto,
+    using(
+        crate::proofs::Texts::at_none,
+        crate::proofs::Texts::at_some,
+        crate::proofs::Puts::written_none,
+        crate::proofs::Puts::behind_none
+    )
+)]
 fn put_place(out: &mut [u8], at: usize, place: u16) -> usize
     ensures { Puts (at_text place) out.old at out.new result }
 {
-    if place == 0 {
-        return at;
+    match place {
+        0 => at,
+        _ => put_number_text(out, at, b" at ", place as u32),
     }
-    put_number_text(out, at, b" at ", place as u32)
 }
 
 // An answer's number, and its place.
@@ -142,9 +139,9 @@ pub fn put_reply(
 pub fn put_signed(out: &mut [u8], at: usize, z: i16) -> usize
     ensures { Puts (signed_text z) out.old at out.new result }
 {
-    if 0 <= z {
-        return put_number(out, at, z as u32);
+    let size = z.unsigned_abs() as u32;
+    if z < 0 {
+        return put_number_text(out, at, b"-", size);
     }
-    let y = 0 - (z + 1);
-    put_number_text(out, at, b"-", y as u32 + 1)
+    put_number(out, at, size)
 }

@@ -4,13 +4,12 @@ use mathlib.Core.List.{List}
 use native.Mathlib.Omega.{arith}
 use Rattle.decimals.proofs.Numerals.{Most, up_to_most}
 use Rattle.decimals.specs.Decimals.{up_to}
-use Rattle.decimals.specs.declared.Number.{Number}
-use Rattle.decimals.specs.declared.Number.TheVariants.{Is, Not}
+use Rattle.std.specs.Prelude.{Option, Some, None}
 use Rattle.script_words.specs.Words.{number_at, value_of, word_at}
 
-value_most : (most : ℕ) (n : Number) → Most most n → value_of n ≤ most
-value_most most (Is v) h = h
-value_most most Not h = omega arith
+value_most : (most : ℕ) (n : Option ℕ) → Most most n → value_of n ≤ most
+value_most most (Some v) h = h
+value_most most None h = omega arith
 
 pub word_most : (most : ℕ) (w : List ℕ) → value_of (up_to most w) ≤ most
 word_most most w = value_most most (up_to most w) (up_to_most most w)

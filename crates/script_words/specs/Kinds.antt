@@ -1,18 +1,11 @@
 -- docs/SCRIPTS.md, "Lines": the kinds of words.
-use Rattle.std.specs.Prelude.{ℕ, Bool, true, false, ◌&&◌, ◌||◌, List, [], ◌∷◌, ltb}
+use Rattle.std.specs.Prelude.{ℕ, Option, Some, None, Bool, true, false, ◌&&◌, ◌||◌, List, [], ◌∷◌, ltb}
 use Rattle.laws.specs.Bytes.{ascii, same}
 use Rattle.decimals.specs.Decimals.{up_to}
-use Rattle.decimals.specs.declared.Number.{Number}
-use Rattle.decimals.specs.declared.Number.TheVariants.{Is, Not}
 use Rattle.script_hex.specs.Hex.{is_hex}
 use Rattle.script_words.specs.Words.{value_of}
-
--- what a word has to be: HEX, a family's letter, the link of a receiver, or an N that is at most so much
-pub data Kind : Type 0 where
-  a_hex : Kind
-  a_family : Kind
-  a_link : Kind
-  a_number : ℕ → Kind
+use Rattle.script_words.specs.declared.Kind.{Kind}
+use Rattle.script_words.specs.declared.Kind.TheVariants.{Hex, Family, Link, Number}
 
 -- "N is [..] at most 4,294,967,295"
 abbrev pub most_n : ℕ
@@ -26,9 +19,9 @@ most_area = 1024
 abbrev pub most_link : ℕ
 most_link = 8
 
-abbrev pub is_number : Number → Bool
-is_number (Is v) = true
-is_number Not = false
+abbrev pub is_number : Option ℕ → Bool
+is_number (Some v) = true
+is_number None = false
 
 -- "its family (W or K)"
 unfoldable pub is_family : List ℕ → Bool
@@ -39,10 +32,10 @@ unfoldable pub is_link : List ℕ → Bool
 is_link w = ltb 0 (value_of (up_to most_link w))
 
 unfoldable pub is_kind : Kind → List ℕ → Bool
-is_kind a_hex w = is_hex w
-is_kind a_family w = is_family w
-is_kind a_link w = is_link w
-is_kind (a_number most) w = is_number (up_to most w)
+is_kind Hex w = is_hex w
+is_kind Family w = is_family w
+is_kind Link w = is_link w
+is_kind (Number most) w = is_number (up_to most w)
 
 -- a word of each kind, and no more: not "too many or too few words"
 unfoldable pub shaped : List Kind → List (List ℕ) → Bool

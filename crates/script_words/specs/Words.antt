@@ -1,8 +1,6 @@
 -- docs/SCRIPTS.md, "Lines": the words of a line, and what a word says.
-use Rattle.std.specs.Prelude.{ℕ, ◌+◌, ◌*◌, cond, List, [], ◌∷◌, eqb, get_or}
+use Rattle.std.specs.Prelude.{ℕ, Option, Some, None, ◌+◌, ◌*◌, cond, List, [], ◌∷◌, eqb, get_or}
 use Rattle.decimals.specs.Decimals.{up_to}
-use Rattle.decimals.specs.declared.Number.{Number}
-use Rattle.decimals.specs.declared.Number.TheVariants.{Is, Not}
 use Rattle.script_hex.specs.Hex.{hex_value, is_hex}
 
 -- what stands before the first c
@@ -27,9 +25,9 @@ abbrev pub word_at : ℕ → List ℕ → List ℕ
 word_at k line = get_or (words_in line) k []
 
 -- "N is a decimal number without sign or leading zero"; 0 where the word is none up to `most`
-abbrev pub value_of : Number → ℕ
-value_of (Is v) = v
-value_of Not = 0
+abbrev pub value_of : Option ℕ → ℕ
+value_of (Some v) = v
+value_of None = 0
 
 unfoldable pub number_at : ℕ → ℕ → List ℕ → ℕ
 number_at most k line = value_of (up_to most (word_at k line))

@@ -1,9 +1,7 @@
-use Prim.Native.Nat.{◌*◌, ◌+◌, ℕ}
+use Prim.Native.Nat.{◌*◌, ◌+◌, ◌<◌, ℕ}
 use mathlib.Core.Path.{◌∙◌, ◌≡◌, ap, sym}
 use native.Mathlib.Omega.{arith}
-use lib.ListN.{length-set}
 use lib.Seq.{paste}
-use borrow.Author.Rules.{rules}
 use Rattle.script_boxes.specs.Boxes.{configuration}
 use Rattle.script_words.proofs.Areas.{front_three, front_whole}
 use Rattle.script_boxes.proofs.Configurations.{configuration_length, family_of_lem, group_of, unit_of_lem}
@@ -29,13 +27,13 @@ loop-i-preserved c =
     let n = a.n in
     let i = c.loop-i.i in
     let size = configuration_length n 1 line in
-    let t = c.loop-i-test.true in
+    let t : i < n = omega arith in
     let e : i * 3 + 3 ≡ (i + 1) * 3 = omega arith in
     let family = c.letter_at.ensures ∙ sym (family_of_lem n i line t) in
     let group = c.number_at.ensures ∙ sym (group_of n i line t) in
     let unit = c.number_at-in-loop-i.ensures ∙ sym (unit_of_lem n i line t) in
-    let laid = front_three a.area.now (configuration n 1 line) (i * 3) _ _ _ _ (omega arith) (omega arith) family group unit c.loop-i.invariant.1.1 in
-    (search rules, (simp length-set c.loop-i.invariant.1.0, laid ∙ ap (paste a.area.now 0 (configuration n 1 line)) e))
+    let laid = front_three a.area.now (configuration n 1 line) (i * 3) _ _ _ _ (omega arith) (omega arith) family group unit c.loop-i.invariant in
+    laid ∙ ap (paste a.area.now 0 (configuration n 1 line)) e
 
 pub returns : goal.returns
 returns c =
@@ -43,4 +41,4 @@ returns c =
     let line = a.line.now in
     let size = configuration_length a.n 1 line in
     let q : c.loop-i.i ≡ a.n = omega arith in
-    front_whole a.area.now (configuration a.n 1 line) (a.n * 3) c.loop-i.area (sym size) (c.loop-i.invariant.1.1 ∙ ap (λ (j : ℕ). paste a.area.now 0 (configuration a.n 1 line) (j * 3)) q)
+    front_whole a.area.now (configuration a.n 1 line) (a.n * 3) c.loop-i.area (sym size) (c.loop-i.invariant ∙ ap (λ (j : ℕ). paste a.area.now 0 (configuration a.n 1 line) (j * 3)) q)

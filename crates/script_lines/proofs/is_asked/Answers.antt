@@ -1,21 +1,21 @@
 -- `is_asked` compares the first word, then the kinds of the rest.
-use Prim.Native.Nat.{ℕ}
-use mathlib.Core.Path.{◌∙◌, ap, sym}
-use lib.ListN.{take}
+use Rattle.std.proofs.Common.{◌≡◌, sym, ap, ◌∙◌, List, ℕ, true, false}
+use Rattle.laws.specs.Bytes.{same}
+use Rattle.script_hex.proofs.Hex.{same_bytes}
+use Rattle.script_words.specs.Words.{word_at}
 use Rattle.script_lines.specs.Orders.{asks}
-use Rattle.script_lines.proofs.Orders.{first_word_lem}
 use Rattle.script_lines.proofs.is_asked.Goals as goal
 
-pub returns-then-not-same_bytes : goal.returns-then-not-same_bytes
+pub returns-then-eq : goal.returns-then-eq
 unfolding asks
-returns-then-not-same_bytes c =
-    let line = c.args.line.now in
-    let e = ap (λ (n : ℕ). take n line) c.length_before-n.ensures.0 ∙ first_word_lem line in
-    sym (rw (← e, ← c.same_bytes.ensures, c.if-not-same_bytes.true))
+returns-then-eq c =
+    let word = c.args.word.now in
+    let e : same (word_at 0 c.args.line.now) word ≡ true = ap (λ (w : List ℕ). same w word) (sym c.word_at.ensures) ∙ same_bytes _ word ∙ sym c.if-eq.ensures in
+    rw e c.are_shaped.ensures
 
-pub returns : goal.returns
+pub returns-else-eq : goal.returns-else-eq
 unfolding asks
-returns c =
-    let line = c.args.line.now in
-    let e = ap (λ (n : ℕ). take n line) c.length_before-n.ensures.0 ∙ first_word_lem line in
-    sym (rw (← e, ← c.same_bytes.ensures, c.if-not-same_bytes.false, ← c.are_shaped.ensures))
+returns-else-eq c =
+    let word = c.args.word.now in
+    let e : same (word_at 0 c.args.line.now) word ≡ false = ap (λ (w : List ℕ). same w word) (sym c.word_at.ensures) ∙ same_bytes _ word ∙ sym c.if-eq.ensures in
+    rw e c.if-eq.false

@@ -6,6 +6,3 @@ use Rattle.script_text.proofs.put_number.Given as goal
 
 abbrev pub invariant-loop-left : goal.invariant-loop-left
 invariant-loop-left l = Underway (plain l.v) (in_digits l.left l.v) l.initial.out l.at l.out l.to
-
-abbrev pub decreases-loop-left : goal.decreases-loop-left
-decreases-loop-left l = l.left

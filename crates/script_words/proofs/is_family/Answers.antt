@@ -1,12 +1,14 @@
 -- `is_family` asks for the two letters in the definition's order.
-use mathlib.Core.Path.{sym}
+use Rattle.std.proofs.Common.{◌≡◌, sym, ap, ◌∙◌, [], ◌∷◌}
+use mathlib.Core.Bool.{false}
+use Rattle.laws.specs.Bytes.{same}
+use Rattle.script_hex.proofs.Hex.{same_bytes}
 use Rattle.script_words.specs.Kinds.{is_family}
 use Rattle.script_words.proofs.is_family.Goals as goal
 
-pub returns-then-same_bytes : goal.returns-then-same_bytes
+pub returns-else-eq : goal.returns-else-eq
 unfolding is_family
-returns-then-same_bytes c = sym (rw (← c.same_bytes.ensures, c.if-same_bytes.true))
-
-pub returns : goal.returns
-unfolding is_family
-returns c = sym (rw (← c.same_bytes.ensures, c.if-same_bytes.false, ← c.same_bytes-2.ensures))
+returns-else-eq c =
+    let w = c.args.w.now in
+    let no : same w (0x57 ∷ []) ≡ false = ap (same w) (sym c.as_slice.ensures) ∙ same_bytes w _ ∙ sym c.if-eq.ensures in
+    rw no (c.eq-else-eq.ensures ∙ sym (same_bytes w _) ∙ ap (same w) c.as_slice-else-eq.ensures)

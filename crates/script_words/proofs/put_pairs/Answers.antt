@@ -1,8 +1,7 @@
-use Prim.Native.Nat.{◌/◌}
 use mathlib.Core.Path.{◌∙◌, ◌≡◌, sym}
 use native.Mathlib.Omega.{arith}
-use lib.ListN.{length, length-set}
-use borrow.Author.Rules.{rules}
+use Prim.Native.Nat.{◌/◌}
+use lib.ListN.{length}
 use Rattle.script_words.specs.Words.{bytes_in}
 use Rattle.script_words.proofs.Areas.{front_more, front_whole}
 use Rattle.script_words.proofs.Hex.{pair_at_lem, pairs_length}
@@ -13,11 +12,11 @@ loop-i-preserved c =
     let a = c.args in
     let i = c.loop-i.i in
     let p = pairs_length a.w.now in
-    (search rules, (simp length-set c.loop-i.invariant.1.0, front_more a.area.now (bytes_in a.w.now) i _ _ (omega arith) (omega arith) (sym (pair_at_lem a.w.now i (omega arith) ∙ rw (← c.hex_value.ensures.0, ← c.hex_value-in-loop-i.ensures.0))) c.loop-i.invariant.1.1))
+    front_more a.area.now (bytes_in a.w.now) i _ _ (omega arith) (omega arith) (sym (pair_at_lem a.w.now i (omega arith) ∙ rw (← c.hex_value.ensures.0, ← c.hex_value-in-loop-i.ensures.0))) c.loop-i.invariant
 
 pub returns : goal.returns
 returns c =
     let a = c.args in
     let p = pairs_length a.w.now in
     let q : c.loop-i.i ≡ length a.w.now / 2 = omega arith in
-    rw (← q) (front_whole a.area.now (bytes_in a.w.now) c.loop-i.i c.loop-i.area (omega arith) c.loop-i.invariant.1.1)
+    rw (← q) (front_whole a.area.now (bytes_in a.w.now) c.loop-i.i c.loop-i.area (omega arith) c.loop-i.invariant)
