@@ -124,6 +124,13 @@ puts_then {s} {t} {d} {e} {f} {n} p q =
     (λ h. either (n + length s) (length d) (then_room p q) (λ k. then_cut p q h (omega arith)))
     (λ h. then_outside p q (omega arith))
 
+-- one byte
+pub puts_byte : (d : List ℕ) (n x : ℕ) → n < length d → Puts (x ∷ []) d n (set d n x) (n + 1)
+unfolding written behind
+puts_byte d n x h =
+    let all : take (length d - n) (x ∷ []) ≡ x ∷ [] = take_all (length d - n) (x ∷ []) (omega arith) in
+    record { area_is = rw (all, add-one) (set_split d n x h ∙ sym (append_snoc (take n d) x (drop (suc n) d))); next_is = sym (rw all) }
+
 -- a whole text, of which a front is put and a rest is left
 pub record Underway (whole rest d : List ℕ) (n : ℕ) (e : List ℕ) (r : ℕ) : Type 0 where
   pub front : List ℕ

@@ -93,15 +93,7 @@ fn put_spoiled(out: &mut [u8], at: usize, rest: &[u8]) -> usize
 }
 
 // "`answer A at P` where P is not 0": the place that goes with an answer.
-#[tactic(
-    auto,
-    using(
-        crate::proofs::Texts::at_none,
-        crate::proofs::Texts::at_some,
-        crate::proofs::Puts::written_none,
-        crate::proofs::Puts::behind_none
-    )
-)]
+#[tactic(auto, using(crate::proofs::Texts::at_none, crate::proofs::Texts::at_some, crate::proofs::Puts::written_none, crate::proofs::Puts::behind_none))]
 fn put_place(out: &mut [u8], at: usize, place: u16) -> usize
     ensures { Puts (at_text place) out.old at out.new result }
 {

@@ -1,5 +1,4 @@
 -- `put` copies what there is room for: where the area has ended, nothing.
-use Prim.Native.Nat.{◌-◌}
 use native.Mathlib.Omega.{arith}
 use Rattle.script_text.proofs.Puts.{puts_front, puts_outside}
 use Rattle.script_text.proofs.put.Goals as goal
