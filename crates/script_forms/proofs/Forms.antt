@@ -5,25 +5,45 @@ use mathlib.Core.List.{List, [], ◌∷◌, ◌++◌, append_assoc, append-nil}
 use Prim.Native.Nat.{ℕ, ◌+◌, ◌<◌, ◌≤◌}
 use native.Mathlib.Omega.{arith}
 use native.Mathlib.Nat.{add-zero}
+use borrow.Author.Tests.{ne_eqb}
 use lib.Dec.{eqb}
 use lib.ListN.{length, get_or, drop}
 use lib.Seq.{drop-drop, get_or-drop}
 use Rattle.laws.specs.Lists.{every}
 use Rattle.laws.proofs.Conditions.{and_first, and_second}
 use Rattle.laws.proofs.Lists.{from, behind}
+use Rattle.std.proofs.Common.{Bor, Iter}
+use Rattle.std.proofs.iter.Yields.{fronts}
+use Rattle.std.specs.Option.{option_copied, unwrap_or}
+use Rattle.std.specs.Prelude.{Option, Some, None}
+use Rattle.decimals.specs.Plain.{plain}
 use Rattle.script_text.specs.Puts.{Puts}
 use Rattle.script_forms.specs.Forms.{mark_text, marks_of, numbers_text}
 use Rattle.script_text.specs.Texts.{number_text}
 use Rattle.script_text.proofs.Puts.{puts_as, puts_then}
 
--- a form from i on, with the numbers from k on: what its byte at i stands for, and those behind it
-pub form_from : (form vs : List ℕ) (i k : ℕ) → i < length form → numbers_text (drop i form) (drop k vs) ≡ mark_text (get_or form i 0) (get_or vs k 0) ++ numbers_text (drop (i + 1) form) (drop (k + marks_of (get_or form i 0)) vs)
-unfolding numbers_text
-form_from form vs i k h = rw (from form i 0 h, get_or-drop, add-zero, drop-drop)
+-- a form from i on, with the numbers that are left: at a `#` the next number, and the form behind it with those behind that
+pub form_mark : (form : List ℕ) (i : ℕ) (vs vs' : List ℕ) (v : ℕ) → i < length form → get_or form i 0 ≡ 0x23 → v ≡ get_or vs 0 0 → vs' ≡ drop 1 vs → numbers_text (drop i form) vs ≡ plain v ++ numbers_text (drop (i + 1) form) vs'
+unfolding numbers_text mark_text marks_of
+form_mark form i vs vs' v h e n r = rw (from form i 0 h, e, n, r)
 
-pub form_behind : (form vs : List ℕ) (i k : ℕ) → length form ≤ i → numbers_text (drop i form) (drop k vs) ≡ []
+-- at another byte that byte
+pub form_byte : (form : List ℕ) (i : ℕ) (vs : List ℕ) → i < length form → (get_or form i 0 ≡ 0x23 → ⊥) → numbers_text (drop i form) vs ≡ (get_or form i 0 ∷ []) ++ numbers_text (drop (i + 1) form) vs
+unfolding numbers_text mark_text marks_of
+form_byte form i vs h n = rw (from form i 0 h, ne_eqb (get_or form i 0) 0x23 n)
+
+pub form_behind : (form vs : List ℕ) (i : ℕ) → length form ≤ i → numbers_text (drop i form) vs ≡ []
 unfolding numbers_text
-form_behind form vs i k h = rw (behind form i h)
+form_behind form vs i h = rw (behind form i h)
+
+-- the next number of those that are left, 0 where there are no more
+pub next_number : (s t : Iter ℕ) (r : Option (Bor ℕ)) → fronts s r t → (unwrap_or (option_copied r) 0 ≡ get_or s.rest.now 0 0) × (t.rest.now ≡ drop 1 s.rest.now)
+next_number s t (Some x) e = (sym (ap (λ (l : List ℕ). get_or l 0 0) e), sym (ap (drop 1) e))
+next_number s t None (n, e) = (sym (empty s.rest.now n).0, ap (λ (u : Iter ℕ). u.rest.now) e ∙ sym (empty s.rest.now n).1)
+  where
+    empty : (l : List ℕ) → length l ≡ 0 → (get_or l 0 0 ≡ 0) × (drop 1 l ≡ l)
+    empty [] n = (refl, refl)
+    empty (x ∷ l) n = absurd (omega arith)
 
 -- no byte of a word is a `#`
 abbrev pub free : List ℕ → Bool

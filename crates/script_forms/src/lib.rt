@@ -13,9 +13,10 @@ pub fn put_numbers(out: &mut [u8], at: usize, form: &[u8], numbers: &[u32]) -> u
     let mut to = at;
     let mut left = numbers.iter();
     for x in form {
-        to = match *x {
-            b'#' => put_number(out, to, left.next().copied().unwrap_or(0)),
-            byte => put(out, to, &[byte]),
+        to = if *x == b'#' {
+            put_number(out, to, left.next().copied().unwrap_or(0))
+        } else {
+            put(out, to, &[*x])
         };
     }
     to
