@@ -4,11 +4,9 @@ use mathlib.Core.Bool.{Bool, cond, false, true}
 use mathlib.Core.List.{List, [], ◌∷◌, ◌++◌, append_assoc, append-nil}
 use Prim.Native.Nat.{ℕ, ◌+◌, ◌<◌, ◌≤◌}
 use native.Mathlib.Omega.{arith}
-use native.Mathlib.Nat.{add-zero}
 use borrow.Author.Tests.{ne_eqb}
 use lib.Dec.{eqb}
 use lib.ListN.{length, get_or, drop}
-use lib.Seq.{drop-drop, get_or-drop}
 use Rattle.laws.specs.Lists.{every}
 use Rattle.laws.proofs.Conditions.{and_first, and_second}
 use Rattle.laws.proofs.Lists.{from, behind}

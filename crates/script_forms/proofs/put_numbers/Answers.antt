@@ -19,12 +19,13 @@ loop-x-preserved c =
     let form = c.args.form.now in
     let i = c.loop-x.x-index in
     elim c.if-x-eq35.branch [
-      then-x-eq35 w ↦
-        let (value, rest) = next_number c.loop-x.left w.next.new.self w.next.result w.next.ensures.steps in
-        let v = w.unwrap_or.ensures ∙ ap (λ (o : Option ℕ). unwrap_or o 0) w.copied.ensures ∙ value in
-        rw (w.out-is, w.to-is, w.left-is) (under_next (plain w.unwrap_or.result) (numbers_text (drop (i + 1) form) w.next.new.self.rest.now) c.loop-x.invariant (form_mark form i _ _ _ c.loop-x-test.true w.if-x-eq35.true v rest) w.put_number-to.ensures)
+      | then-x-eq35 w ↦
+          let (value, rest) = next_number c.loop-x.left w.next.new.self w.next.result w.next.ensures.steps in
+          let v = w.unwrap_or.ensures ∙ ap (λ (o : Option ℕ). unwrap_or o 0) w.copied.ensures ∙ value in
+          rw (w.out-is, w.to-is, w.left-is) (under_next (plain w.unwrap_or.result) (numbers_text (drop (i + 1) form) w.next.new.self.rest.now) c.loop-x.invariant (form_mark form i _ _ _ c.loop-x-test.true w.if-x-eq35.true v rest) w.put_number-to.ensures)
       | else-x-eq35 w ↦
-        rw (w.out-is, w.to-is, w.left-is) (under_next (get_or form i 0 ∷ []) (numbers_text (drop (i + 1) form) c.loop-x.left.rest.now) c.loop-x.invariant (form_byte form i _ c.loop-x-test.true w.if-x-eq35.false) w.put-to.ensures) ]
+          rw (w.out-is, w.to-is, w.left-is) (under_next (get_or form i 0 ∷ []) (numbers_text (drop (i + 1) form) c.loop-x.left.rest.now) c.loop-x.invariant (form_byte form i _ c.loop-x-test.true w.if-x-eq35.false) w.put-to.ensures)
+    ]
 
 pub returns : goal.returns
 returns c = under_none c.loop-x.invariant (form_behind c.args.form.now c.loop-x.left.rest.now c.loop-x.x-index c.loop-x-test.false)
