@@ -6,6 +6,7 @@ use mathlib.Core.Bool.{true}
 use mathlib.Core.List.{List, Memᴰ}
 use lib.ListN.{length}
 use borrow.Author.Tests.{eq-eqb}
+use Rattle.std.specs.Prelude.{Some}
 use Rattle.laws.specs.Bytes.{ascii}
 use Rattle.laws.specs.Lists.{every}
 use Rattle.decimals.specs.Decimals.{is_digit, decimal, in_digits}
@@ -20,8 +21,8 @@ use Rattle.kjw_sets.specs.Words.{state_letters}
 use Rattle.kjw_values.specs.Values.{value_of}
 use Rattle.remote.specs.Codes.{Code, codes, asked_in, button_of}
 use Rattle.remote.specs.declared.Button.{Button}
-use Rattle.remote.specs.declared.Button.TheVariants.{Unlisted, Louder, Mute}
-use Rattle.remote.proofs.Rules.{listed_asks, asks_one}
+use Rattle.remote.specs.declared.Button.TheVariants.{Louder, Mute}
+use Rattle.remote.proofs.Rules.{listed_asks}
 use Rattle.kjw.specs.Orders.{turned_over, louder, with_power, with_amut, with_pmut}
 use Rattle.kjw.specs.Replies.{turn_of}
 use Rattle.kjw_sets.specs.declared.State.{State}
@@ -95,19 +96,19 @@ module _ (b : DisplayBox) (i : ℕ) (p area : List ℕ) (sixteen : length p ≡ 
   abbrev after_code : DisplayBox
   after_code = (step b (kjw (suc i) (code_frame p) area)).box
 
-  button_pressed : (u : Button) → button_of (decimal p) ≡ u → (u ≡ Unlisted → ⊥) → (panel_at i after_code).k ≡ after_press u (panel_at i b).k
-  button_pressed u e n =
+  button_pressed : (u : Button) → button_of (decimal p) ≡ Some u → (panel_at i after_code).k ≡ after_press u (panel_at i b).k
+  button_pressed u e =
       let room = has_room (by_kjw (code_frame p)) (came b i (code_frame p) area d) in
-      after b i (code_frame p) area d ∙ ap (λ (t : Turn KRecord). t.after) (number_met p sixteen (length area) room (panel_at i b).k digits u e n)
+      after b i (code_frame p) area d ∙ ap (λ (t : Turn KRecord). t.after) (number_met p sixteen (length area) room (panel_at i b).k digits u e)
 
   -- whatever the row of the table, the panel is what document 02 says of its button
   pub code_pressed : (c : Code) → Memᴰ c codes → decimal p ≡ c.code → (panel_at i after_code).k ≡ after_press c.asks (panel_at i b).k
-  code_pressed c m n = button_pressed c.asks (ap button_of n ∙ listed_asks c m) (asks_one c m)
+  code_pressed c m n = button_pressed c.asks (ap button_of n ∙ listed_asks c m)
 
   -- Mute turns the sound mute over
   pub muted_toggled : decimal p ≡ 32 → (panel_at i after_code).k ≡ with_amut (turned_over (panel_at i b).k.amut) (panel_at i b).k
   unfolding button_of asked_in
-  muted_toggled n = button_pressed Mute (ap button_of n) (λ e. let z : ◌≡◌ {A = ℕ} 0 1 = cc in omega arith)
+  muted_toggled n = button_pressed Mute (ap button_of n)
 
   -- an enquiry that comes to the panel next, or after any messages of which none that is addressed to it sets the state
   module _ (l : ℕ) (area' : List ℕ) (ms : List Message) (s : State) (n : spared (λ (m : Message). sets_state m s) i after_code ms ≡ true) (r : Reaches (run after_code ms) (kjw l (frame_of type_enquiry (state_letters s) blank) area') i) where
@@ -123,4 +124,4 @@ module _ (b : DisplayBox) (i : ℕ) (p area : List ℕ) (sixteen : length p ≡ 
   -- so behind Volume Up VOLU is answered with the volume one higher, or 100
   pub louder_asked : (l : ℕ) (area' : List ℕ) (ms : List Message) → decimal p ≡ 30 → spared (λ (m : Message). sets_state m Volume) i after_code ms ≡ true → Reaches (run after_code ms) (kjw l (frame_of type_enquiry (ascii "VOLU") blank) area') i → (step (run after_code ms) (kjw l (frame_of type_enquiry (ascii "VOLU") blank) area')).back ≡ back_on area' (frame_of type_answer (ascii "VOLU") (in_digits 16 (louder (panel_at i b).k.volume)))
   unfolding button_of asked_in state_letters value_of
-  louder_asked l area' ms e n r = button_asked l area' ms Volume n r (after_press Louder (panel_at i b).k) (button_pressed Louder (ap button_of e) (λ f. let z : ◌≡◌ {A = ℕ} 0 1 = cc in omega arith))
+  louder_asked l area' ms e n r = button_asked l area' ms Volume n r (after_press Louder (panel_at i b).k) (button_pressed Louder (ap button_of e))

@@ -41,7 +41,7 @@ use Rattle.kjw_asks.specs.Asks as frameAsks
 use Rattle.kjw_sets.specs.declared.State.{State}
 use Rattle.kjw_sets.specs.declared.State.TheVariants as states
 use Rattle.kjw_sets.specs.declared.Order as frameOrder
-use Rattle.kjw_sets.specs.declared.Heard.TheVariants as frameIs
+use Rattle.kjw_asks.specs.declared.Fault as frameFault
 use Rattle.kjw.specs.Orders as frameOrders
 use Rattle.kjw.proofs.Stays as frameStays
 use Rattle.sdcp.specs.Replies as packets
@@ -162,7 +162,7 @@ carried_one (rs232c l m area) p p' p'' (s, o, e, q) (t, o', f, r) =
     let y : o ≡ o' = cc in
     q ∙ ap (λ (x : serialOrder.Order). with_w p (serialOrders.carried x (serialAsks.values_of m) p.w)) y ∙ sym r
 carried_one (kjw l m area) p p' p'' (o, e, q) (o', f, r) =
-    let z : frameIs.Understood o ≡ frameIs.Understood o' = sym e ∙ f in
+    let z : ◌≡◌ {A = Result frameOrder.Order frameFault.Fault} (Ok o) (Ok o') = sym e ∙ f in
     let y : o ≡ o' = cc in
     q ∙ ap (λ (x : frameOrder.Order). with_k p (frameOrders.carried x p.k)) y ∙ sym r
 carried_one (tcp l m area) p p' p'' (o, e, q) (o', f, r) =

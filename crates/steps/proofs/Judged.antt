@@ -5,7 +5,7 @@ use mathlib.Core.Bool.{Bool, true, false, not, cond, ◌&&◌, ◌||◌}
 use mathlib.Core.List.{List, [], ◌∷◌}
 use lib.Dec.{eqb, ltb}
 use lib.ListN.{length, get_or, drop}
-use Rattle.std.specs.Prelude.{Option, Some, None, Result, Ok, Err}
+use Rattle.std.specs.Prelude.{Option, Some, None, Result, Ok, Err, ok_or}
 use Rattle.laws.specs.Bytes.{ascii, part, same}
 use Rattle.laws.specs.Lists.{every}
 use Rattle.laws.proofs.Conditions.{choose, false_true}
@@ -16,8 +16,6 @@ use Rattle.terms.specs.declared.Answer.{Answer}
 use Rattle.terms.specs.declared.Answer.TheVariants.{WrongLength, NotForUs}
 use Rattle.panels.specs.declared.WRecord.{WRecord}
 use Rattle.panels.specs.declared.KRecord.{KRecord}
-use Rattle.panels.specs.Valid.{ok_input}
-use Rattle.decimals.specs.Decimals.{is_digit, decimal}
 use Rattle.vmc_asks.specs.Asks.{read_data}
 use Rattle.vmc_asks.specs.declared.Order as wordOrder
 use Rattle.vmc_asks.specs.declared.Words.{Words}
@@ -33,21 +31,10 @@ use Rattle.sdcp_asks.specs.declared.Heard.TheVariants as packetIs
 use Rattle.kjw.specs.Replies as frames
 use Rattle.steps.specs.Step.{checks}
 use Rattle.kjw_asks.specs.Asks as frameAsks
-use Rattle.kjw_sets.specs.Words.{switches, scenes}
-use Rattle.kjw_sets.specs.Sets as frameSets
-use Rattle.kjw_codes.specs.Presses as frameCodes
-use Rattle.remote.specs.Codes.{button_of}
-use Rattle.remote.specs.declared.Button.{Button}
-use Rattle.remote.specs.declared.Button.TheVariants as buttons
-use Rattle.kjw_asks.specs.Frames.{blank, letters_of, type_control}
-use Rattle.kjw_asks.specs.declared.Named.{Named}
-use Rattle.kjw_asks.specs.declared.Named.TheVariants.{Is, Nothing}
-use Rattle.kjw_sets.specs.declared.State.{State}
-use Rattle.kjw_sets.specs.declared.State.TheVariants.{Power, AudioMute, PictureMute, Volume, Input, Scene}
+use Rattle.kjw_asks.specs.Frames.{letters_of, type_control}
 use Rattle.kjw_sets.specs.declared.Order as frameOrder
-use Rattle.kjw_sets.specs.declared.Order.TheVariants as frameOrders
-use Rattle.kjw_sets.specs.declared.Heard as frameHeard
-use Rattle.kjw_sets.specs.declared.Heard.TheVariants as frameIs
+use Rattle.kjw_asks.specs.declared.Fault as frameFault
+use Rattle.kjw_asks.specs.declared.Fault.TheVariants as frameIs
 
 -- the number of the first of some conditions that holds; 0 where none does
 abbrev pub first_of : List ℕ → List Bool → ℕ
@@ -213,10 +200,10 @@ packet_clear m a b c = rw (a, b, c) (go _ (words_judged (read_data (packetAsks.d
 
 -- ---- KJW
 
-abbrev pub frame_unclear : frameHeard.Heard → Bool
-frame_unclear (frameIs.Refused a) = false
-frame_unclear frameIs.NotUnderstood = true
-frame_unclear (frameIs.Understood o) = false
+abbrev pub frame_unclear : Result frameOrder.Order frameFault.Fault → Bool
+frame_unclear (Err (frameIs.Refused a)) = false
+frame_unclear (Err frameIs.NotUnderstood) = true
+frame_unclear (Ok o) = false
 
 -- "Other length: 3. Wrong `*S`, footer, or a type not C or E: 4. [..] All else: 6.": there is no envelope to be wrong
 abbrev pub frame_conditions : List ℕ → List Bool
@@ -224,115 +211,54 @@ frame_conditions m =
     not (eqb (length m) 24) ∷ not (frameAsks.is_ours m) ∷ false ∷ false ∷ false ∷ false ∷ false ∷ false ∷ false
     ∷ frame_unclear (frameAsks.heard_of m) ∷ []
 
-abbrev frame_number : frameHeard.Heard → ℕ
-frame_number (frameIs.Refused a) = number_of a
-frame_number frameIs.NotUnderstood = 6
-frame_number (frameIs.Understood o) = 0
+abbrev frame_number : Result frameOrder.Order frameFault.Fault → ℕ
+frame_number (Err (frameIs.Refused a)) = number_of a
+frame_number (Err frameIs.NotUnderstood) = 6
+frame_number (Ok o) = 0
 
-abbrev FrameJudged : frameHeard.Heard → Type 0
-FrameJudged (frameIs.Refused a) = ⊥
-FrameJudged frameIs.NotUnderstood = Unit {0}
-FrameJudged (frameIs.Understood o) = Unit {0}
+-- what a frame of ours orders, if anything
+abbrev frame_order : List ℕ → Option frameOrder.Order
+frame_order m = cond (eqb (get_or m 2 0) type_control) (frameAsks.control_of (letters_of m) (part 7 16 m)) (frameAsks.enquiry_of (letters_of m) (part 7 16 m))
 
-frame_number_lem : (h : frameHeard.Heard) → FrameJudged h → frame_number h ≡ cond (frame_unclear h) 6 0
-frame_number_lem (frameIs.Refused a) j = absurd j
-frame_number_lem frameIs.NotUnderstood j = refl
-frame_number_lem (frameIs.Understood o) j = refl
+abbrev frame_hears : Option frameOrder.Order → Result frameOrder.Order frameFault.Fault
+frame_hears o = ok_or o frameIs.NotUnderstood
 
-choice_judged : (order : ℕ → frameOrder.Order) (c : frameSets.Choice) → FrameJudged (frameSets.choice_order order c)
-choice_judged order (frameSets.a_word v) = tt
-choice_judged order frameSets.no_word = tt
-
-input_judged : (kind port : ℕ) → FrameJudged (frameSets.input_of kind port)
-unfolding frameSets.input_of
-input_judged kind port = choose FrameJudged (ok_input kind port) _ _ (λ e. tt) (λ e. tt)
-
-by_judged : (s : State) (p : List ℕ) → FrameJudged (frameSets.set_by s p)
-unfolding frameSets.set_by frameSets.volume_order frameSets.input_order
-by_judged Power p = choice_judged frameOrders.SetPower (frameSets.chosen switches p)
-by_judged AudioMute p = choice_judged frameOrders.SetAudioMute (frameSets.chosen switches p)
-by_judged PictureMute p = choice_judged frameOrders.SetPictureMute (frameSets.chosen switches p)
-by_judged Volume p = choose FrameJudged (frameSets.is_volume p) _ _ (λ e. tt) (λ e. tt)
-by_judged Input p =
-    choose FrameJudged (frameSets.is_padded p && every is_digit (frameSets.kind_in p) && every is_digit (frameSets.port_in p)) _ _
-    (λ e. input_judged (decimal (frameSets.kind_in p)) (decimal (frameSets.port_in p)))
-    (λ e. tt)
-by_judged Scene p = choice_judged frameOrders.SetScene (frameSets.chosen scenes p)
-
-set_judged : (s : State) (p : List ℕ) → FrameJudged (frameSets.set_of s p)
-unfolding frameSets.set_of
-set_judged s p = choose FrameJudged (eqb (length p) 16) _ _ (λ e. by_judged s p) (λ e. tt)
-
-pressed_judged : (b : Button) → FrameJudged (frameCodes.pressed b)
-pressed_judged buttons.Unlisted = tt
-pressed_judged buttons.Idle = tt
-pressed_judged buttons.Louder = tt
-pressed_judged buttons.Softer = tt
-pressed_judged buttons.Mute = tt
-pressed_judged buttons.Picture = tt
-pressed_judged buttons.Power = tt
-pressed_judged (buttons.Hdmi port) = tt
-
-code_judged : (p : List ℕ) → FrameJudged (frameCodes.code_order p)
-unfolding frameCodes.code_order
-code_judged p = choose FrameJudged (frameCodes.is_code p) _ _ (λ e. pressed_judged (button_of (decimal p))) (λ e. tt)
-
-toggle_judged : (l p : List ℕ) → FrameJudged (frameAsks.toggle_of l p)
-unfolding frameAsks.toggle_of
-toggle_judged l p =
-    choose FrameJudged (not (same p blank)) _ _ (λ e. tt)
-    (λ e. choose FrameJudged (same l (ascii "TPOW")) _ _ (λ f. tt) (λ f. choose FrameJudged (same l (ascii "TPMU")) _ _ (λ g. tt) (λ g. tt)))
-
-control_judged : (n : Named) (l p : List ℕ) → FrameJudged (frameAsks.control_by n l p)
-unfolding frameAsks.code_or_toggle
-control_judged (Is s) l p = set_judged s p
-control_judged Nothing l p = choose FrameJudged (same l (ascii "IRCC")) _ _ (λ e. code_judged p) (λ e. toggle_judged l p)
-
-asked_judged : (n : Named) → FrameJudged (frameAsks.enquiry_by n)
-asked_judged (Is s) = tt
-asked_judged Nothing = tt
-
-enquiry_judged : (l p : List ℕ) → FrameJudged (frameAsks.enquiry_of l p)
-unfolding frameAsks.enquiry_of
-enquiry_judged l p = choose FrameJudged (not (same p blank)) _ _ (λ e. tt) (λ e. asked_judged (frameAsks.state_named l))
-
-asks_judged : (m : List ℕ) → FrameJudged (cond (eqb (get_or m 2 0) type_control) (frameAsks.control_of (letters_of m) (part 7 16 m)) (frameAsks.enquiry_of (letters_of m) (part 7 16 m)))
-unfolding frameAsks.control_of
-asks_judged m = choose FrameJudged (eqb (get_or m 2 0) type_control) _ _ (λ g. control_judged (frameAsks.state_named (letters_of m)) (letters_of m) (part 7 16 m)) (λ g. enquiry_judged (letters_of m) (part 7 16 m))
+frame_judged : (o : Option frameOrder.Order) → frame_number (frame_hears o) ≡ cond (frame_unclear (frame_hears o)) 6 0
+frame_judged None = refl
+frame_judged (Some o) = refl
 
 frame_heard : (m : List ℕ) → frame_number (frameAsks.heard_of m) ≡ first_of own_checks (frame_conditions m)
 unfolding frameAsks.heard_of
-frame_heard m = go (not (eqb (length m) 24)) (not (frameAsks.is_ours m)) _ (asks_judged m)
+frame_heard m = go (not (eqb (length m) 24)) (not (frameAsks.is_ours m)) (frame_order m)
   where
-    go : (a b : Bool) (h : frameHeard.Heard) → FrameJudged h → frame_number (cond a (frameIs.Refused WrongLength) (cond b (frameIs.Refused NotForUs) h)) ≡ first_of own_checks (a ∷ b ∷ false ∷ false ∷ false ∷ false ∷ false ∷ false ∷ false ∷ frame_unclear (cond a (frameIs.Refused WrongLength) (cond b (frameIs.Refused NotForUs) h)) ∷ [])
-    go true b h j = refl
-    go false true h j = refl
-    go false false h j = frame_number_lem h j
+    go : (a b : Bool) (o : Option frameOrder.Order) → frame_number (cond a (Err (frameIs.Refused WrongLength)) (cond b (Err (frameIs.Refused NotForUs)) (frame_hears o))) ≡ first_of own_checks (a ∷ b ∷ false ∷ false ∷ false ∷ false ∷ false ∷ false ∷ false ∷ frame_unclear (cond a (Err (frameIs.Refused WrongLength)) (cond b (Err (frameIs.Refused NotForUs)) (frame_hears o))) ∷ [])
+    go true b o = refl
+    go false true o = refl
+    go false false o = frame_judged o
 
-frame_turned : (h : frameHeard.Heard) (k : KRecord) → number_of (frames.decided k h).answer ≡ frame_number h
+frame_turned : (h : Result frameOrder.Order frameFault.Fault) (k : KRecord) → number_of (frames.decided k h).answer ≡ frame_number h
 unfolding frames.decided
-frame_turned (frameIs.Refused a) k = refl
-frame_turned frameIs.NotUnderstood k = refl
-frame_turned (frameIs.Understood o) k = refl
+frame_turned (Err (frameIs.Refused a)) k = refl
+frame_turned (Err frameIs.NotUnderstood) k = refl
+frame_turned (Ok o) k = refl
 
 -- the number of the answer to a frame
 pub frame_answered : (m : List ℕ) (k : KRecord) → number_of (frames.turn_of m k).answer ≡ first_of own_checks (frame_conditions m)
 unfolding frames.turn_of
 frame_answered m k = frame_turned (frameAsks.heard_of m) k ∙ frame_heard m
 
-pub frame_unclear_lem : (m : List ℕ) → frame_unclear (frameAsks.heard_of m) ≡ true → frameAsks.heard_of m ≡ frameIs.NotUnderstood
+pub frame_unclear_lem : (m : List ℕ) → frame_unclear (frameAsks.heard_of m) ≡ true → frameAsks.heard_of m ≡ Err frameIs.NotUnderstood
 frame_unclear_lem m = go (frameAsks.heard_of m)
   where
-    go : (h : frameHeard.Heard) → frame_unclear h ≡ true → h ≡ frameIs.NotUnderstood
-    go (frameIs.Refused a) u = absurd (false_true u)
-    go frameIs.NotUnderstood u = refl
-    go (frameIs.Understood o) u = absurd (false_true u)
+    go : (h : Result frameOrder.Order frameFault.Fault) → frame_unclear h ≡ true → h ≡ Err frameIs.NotUnderstood
+    go (Err (frameIs.Refused a)) u = absurd (false_true u)
+    go (Err frameIs.NotUnderstood) u = refl
+    go (Ok o) u = absurd (false_true u)
 
-pub frame_clear : (m : List ℕ) → eqb (length m) 24 ≡ true → frameAsks.is_ours m ≡ true → frame_unclear (frameAsks.heard_of m) ≡ false → (o : frameOrder.Order) × (frameAsks.heard_of m ≡ frameIs.Understood o)
+pub frame_clear : (m : List ℕ) → eqb (length m) 24 ≡ true → frameAsks.is_ours m ≡ true → frame_unclear (frameAsks.heard_of m) ≡ false → (o : frameOrder.Order) × (frameAsks.heard_of m ≡ Ok o)
 unfolding frameAsks.heard_of
-frame_clear m a b = rw (a, b) (go _ (asks_judged m))
+frame_clear m a b = rw (a, b) (go (frame_order m))
   where
-    go : (h : frameHeard.Heard) → FrameJudged h → frame_unclear h ≡ false → (o : frameOrder.Order) × (h ≡ frameIs.Understood o)
-    go (frameIs.Refused a) j u = absurd j
-    go frameIs.NotUnderstood j u = absurd (false_true (sym u))
-    go (frameIs.Understood o) j u = (o, refl)
+    go : (o : Option frameOrder.Order) → frame_unclear (frame_hears o) ≡ false → (o' : frameOrder.Order) × (frame_hears o ≡ Ok o')
+    go None u = absurd (false_true (sym u))
+    go (Some o) u = (o, refl)

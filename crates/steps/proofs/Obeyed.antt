@@ -6,6 +6,7 @@ use mathlib.Core.Bool.{true}
 use mathlib.Core.List.{List}
 use lib.ListN.{length}
 use borrow.Author.Tests.{le-ltb}
+use Rattle.std.specs.Prelude.{Result, Ok}
 use Rattle.terms.specs.Answers.{number_of}
 use Rattle.terms.specs.declared.Answer.TheVariants.{Done}
 use Rattle.turns.specs.Turns.{Turn, taken}
@@ -26,8 +27,7 @@ use Rattle.kjw.specs.Replies as frames
 use Rattle.kjw.specs.Orders as frameOrders
 use Rattle.kjw_asks.specs.Asks as frameAsks
 use Rattle.kjw_sets.specs.declared.Order as frameOrder
-use Rattle.kjw_sets.specs.declared.Heard as frameHeard
-use Rattle.kjw_sets.specs.declared.Heard.TheVariants as frameIs
+use Rattle.kjw_asks.specs.declared.Fault as frameFault
 use Rattle.rs232c_asks.specs.Asks as serialAsks
 use Rattle.rs232c.specs.Orders as serialOrders
 use Rattle.rs232c_asks.specs.declared.Order as serialOrder
@@ -42,11 +42,11 @@ use Rattle.steps.proofs.Only.{only_0}
 
 -- ---- KJW
 
-turn_obeys : (h : frameHeard.Heard) (o : frameOrder.Order) (k : KRecord) → h ≡ frameIs.Understood o → (frames.decided k h).k ≡ frameOrders.carried o k
+turn_obeys : (h : Result frameOrder.Order frameFault.Fault) (o : frameOrder.Order) (k : KRecord) → h ≡ Ok o → (frames.decided k h).k ≡ frameOrders.carried o k
 unfolding frames.decided
 turn_obeys h o k e = rw e
 
-pub frame_obeyed : (b : DisplayBox) (i l : ℕ) (m area : List ℕ) (o : frameOrder.Order) → frameAsks.heard_of m ≡ frameIs.Understood o → Reaches b (kjw l m area) i → panel_at i (step b (kjw l m area)).box ≡ with_k (panel_at i b) (frameOrders.carried o (panel_at i b).k)
+pub frame_obeyed : (b : DisplayBox) (i l : ℕ) (m area : List ℕ) (o : frameOrder.Order) → frameAsks.heard_of m ≡ Ok o → Reaches b (kjw l m area) i → panel_at i (step b (kjw l m area)).box ≡ with_k (panel_at i b) (frameOrders.carried o (panel_at i b).k)
 unfolding turn frames.turn_of
 frame_obeyed b i l m area o e r =
     takes r
@@ -87,7 +87,7 @@ obeyed {b} {m} {i} p o by_udp e r =
 -- an order was understood, and the panel is as it was but for the record of its family, on which that order was carried out
 abbrev pub Carried : Message → Panel → Panel → Type 0
 Carried (rs232c l m area) p p' = (s : ℕ) × (o : serialOrder.Order) × (serialAsks.heard_of m ≡ serialAsks.understood s o) × (p' ≡ with_w p (serialOrders.carried o (serialAsks.values_of m) p.w))
-Carried (kjw l m area) p p' = (o : frameOrder.Order) × (frameAsks.heard_of m ≡ frameIs.Understood o) × (p' ≡ with_k p (frameOrders.carried o p.k))
+Carried (kjw l m area) p p' = (o : frameOrder.Order) × (frameAsks.heard_of m ≡ Ok o) × (p' ≡ with_k p (frameOrders.carried o p.k))
 Carried (tcp l m area) p p' = (o : wordOrder.Order) × (packetAsks.heard_of m ≡ packetIs.Understood o) × (p' ≡ with_w p (words.carried o p.w))
 Carried (udp m) p p' = (o : wordOrder.Order) × (packetAsks.heard_of m ≡ packetIs.Understood o) × (p' ≡ with_w p (words.carried o p.w))
 

@@ -13,7 +13,7 @@ use Rattle.laws.proofs.Conditions.{and_first, and_second, false_true}
 use Rattle.terms.specs.Answers.{part_number, number_of}
 use Rattle.terms.specs.declared.Part.{Part}
 use Rattle.terms.specs.declared.Part.TheVariants.{Request, Item, TooLong, NotMatching, Count, Checksum}
-use Rattle.std.specs.Prelude.{Ok}
+use Rattle.std.specs.Prelude.{Ok, Err}
 use Rattle.panels.specs.Records.{family_w, family_k}
 use Rattle.panels.specs.Valid.{valid}
 use Rattle.panels.specs.declared.DisplayBox.{DisplayBox}
@@ -24,7 +24,7 @@ use Rattle.rs232c_asks.proofs.Envelopes as serialEnvelopes
 use Rattle.rs232c_asks.specs.declared.Order as serialOrder
 use Rattle.kjw_asks.specs.Asks as frameAsks
 use Rattle.kjw_sets.specs.declared.Order as frameOrder
-use Rattle.kjw_sets.specs.declared.Heard.TheVariants as frameIs
+use Rattle.kjw_asks.specs.declared.Fault.TheVariants as frameIs
 use Rattle.vmc_asks.specs.Asks.{asks_status}
 use Rattle.sdcp_asks.specs.Asks as packetAsks
 use Rattle.sdcp_asks.proofs.Envelopes as packetEnvelopes
@@ -104,14 +104,14 @@ Asking (udp m) = asks_status (packetAsks.data_of m) ≡ true
 -- 6: "contents not understood"
 abbrev pub Unclear : Message → Type 0
 Unclear (rs232c l m area) = (s : ℕ) × (serialAsks.heard_of m ≡ serialAsks.not_understood s)
-Unclear (kjw l m area) = frameAsks.heard_of m ≡ frameIs.NotUnderstood
+Unclear (kjw l m area) = frameAsks.heard_of m ≡ Err frameIs.NotUnderstood
 Unclear (tcp l m area) = packetAsks.heard_of m ≡ packetIs.NotUnderstood
 Unclear (udp m) = packetAsks.cast_of m ≡ packetIs.NotUnderstood
 
 -- 0: an order was understood
 abbrev pub Clear : Message → Type 0
 Clear (rs232c l m area) = (s : ℕ) × (o : serialOrder.Order) × (serialAsks.heard_of m ≡ serialAsks.understood s o)
-Clear (kjw l m area) = (o : frameOrder.Order) × (frameAsks.heard_of m ≡ frameIs.Understood o)
+Clear (kjw l m area) = (o : frameOrder.Order) × (frameAsks.heard_of m ≡ Ok o)
 Clear (tcp l m area) = (o : wordOrder.Order) × (packetAsks.heard_of m ≡ packetIs.Understood o)
 Clear (udp m) = (o : wordOrder.Order) × (packetAsks.cast_of m ≡ packetIs.Understood o)
 

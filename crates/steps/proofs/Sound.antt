@@ -6,6 +6,7 @@ use Prim.Native.Nat.{ℕ, ◌<◌}
 use native.Mathlib.Omega.{arith}
 use lib.Dec.{eqb}
 use lib.ListN.{length}
+use Rattle.std.specs.Prelude.{Result, Ok, Err}
 use Rattle.laws.proofs.Conditions.{and_first, and_second, and_both}
 use Rattle.terms.specs.Answers.{number_of}
 use Rattle.terms.proofs.Answers.{part_late}
@@ -24,8 +25,9 @@ use Rattle.rs232c.proofs.Validity as serialValidity
 use Rattle.kjw.specs.Replies as frames
 use Rattle.kjw_tells.specs.Texts as frameTexts
 use Rattle.kjw_asks.specs.Asks as frameAsks
-use Rattle.kjw_sets.specs.declared.Heard as frameHeard
-use Rattle.kjw_sets.specs.declared.Heard.TheVariants as frameIs
+use Rattle.kjw_sets.specs.declared.Order as frameOrder
+use Rattle.kjw_asks.specs.declared.Fault as frameFault
+use Rattle.kjw_asks.specs.declared.Fault.TheVariants as frameIs
 use Rattle.kjw.proofs.Validity as frameValidity
 use Rattle.kjw.proofs.Refusals as frameRefusals
 use Rattle.sdcp_asks.specs.Asks as packetAsks
@@ -53,11 +55,11 @@ serial_heard m vs w =
     serialEnvelopes.by_rungs (λ (h : serialAsks.Heard). Quiet (number_of (serial.turned h vs w).answer) (serial.turned h vs w).reply) m (λ z l. refl) (λ z l. refl)
     (λ p e z l. let n = part_late p in absurd (omega (arith, n, l))) (λ n z l. absurd (omega arith)) (λ o n z l. absurd (z refl))
 
-frame_heard : (h : frameHeard.Heard) (s : List ℕ) (k : KRecord) → Quiet (number_of (frames.decided k h).answer) (frames.turned s (frames.decided k h)).reply
+frame_heard : (h : Result frameOrder.Order frameFault.Fault) (s : List ℕ) (k : KRecord) → Quiet (number_of (frames.decided k h).answer) (frames.turned s (frames.decided k h)).reply
 unfolding frames.decided frameTexts.bytes_of
-frame_heard (frameIs.Refused a) s k z l = refl
-frame_heard frameIs.NotUnderstood s k z l = absurd (omega arith)
-frame_heard (frameIs.Understood o) s k z l = absurd (z refl)
+frame_heard (Err (frameIs.Refused a)) s k z l = refl
+frame_heard (Err frameIs.NotUnderstood) s k z l = absurd (omega arith)
+frame_heard (Ok o) s k z l = absurd (z refl)
 
 frame_quiet : (m : List ℕ) (k : KRecord) → Quiet (number_of (frames.turn_of m k).answer) (frames.turn_of m k).reply
 unfolding frames.turn_of
