@@ -20,6 +20,7 @@ pub enum State {
 }
 
 // What an understood frame orders. An input is its type and its port; a pass is answered and changes nothing.
+// Each switch has orders of its own, as it has a field of its own in the record: one type of switches would be mapped to both by hand.
 #[derive(Clone, Copy)]
 pub enum Order {
     SetPower(u8),
@@ -113,7 +114,7 @@ fn input_of(kind: u64, port: u64) -> Option<Order>
     requires { (kind ≤ 9) × (port ≤ 9999) }
     ensures { result ≡ input_of kind port }
 {
-    if !KINDS.contains(&(kind as u8)) || port < 1 {
+    if !KINDS.contains(&(kind as u8)) || port == 0 {
         return None;
     }
     Some(Order::SetInput(kind as u8, port as u16))
