@@ -7,7 +7,7 @@ ghost use Rattle.panels.specs.Records.{connectors, presets};
 ghost use Rattle.rs232c_asks.specs.Asks.{is_foreign, envelope_of, config_command, select_command, levels_command, sense_command, remote_command, command_of, order_of, heard_of};
 ghost use Rattle.rs232c_asks.specs.Commands.{connector_good, preset_good, config_good, select_good};
 
-use octets::{byte_at, is_listed, ones_of};
+use octets::ones_of;
 use panels::{CONNECTORS, PRESETS};
 use sums::sums_to_zero;
 use terms::{Answer, Part};
@@ -41,12 +41,12 @@ pub struct Asked {
     pub order: Result<Order, Answer>,
 }
 
-// First byte, destination and source.
+// First byte, destination and source are not as they are to be.
 #[tactic(auto, unfolding(crate::specs::Asks::is_foreign))]
 fn is_foreign(m: &[u8]) -> bool
     ensures { result ≡ is_foreign m.now }
 {
-    byte_at(m, 0) != 2 || byte_at(m, 2) != 1 || !(0x41..=0x7F).contains(&byte_at(m, 3))
+    !matches!(m, [2, _, 1, 0x41..=0x7F, ..])
 }
 
 // Byte count and checksum, in this order. A frame whose byte count is right has at most 258 bytes.
@@ -69,7 +69,7 @@ fn envelope_of(m: &[u8]) -> Result<(), Part>
 fn connector_good(marks: u8, byte: u8) -> bool
     ensures { result ≡ connector_good marks byte }
 {
-    marks % 2 != 1 || is_listed(&CONNECTORS, byte % 16)
+    marks % 2 != 1 || CONNECTORS.contains(&(byte % 16))
 }
 
 // 21h: the preset's code is listed, where it is marked.
@@ -77,7 +77,7 @@ fn connector_good(marks: u8, byte: u8) -> bool
 fn preset_good(marks: u8, byte: u8) -> bool
     ensures { result ≡ preset_good marks byte }
 {
-    marks / 2 % 2 != 1 || is_listed(&PRESETS, byte / 16 % 8)
+    marks / 2 % 2 != 1 || PRESETS.contains(&(byte / 16 % 8))
 }
 
 // 21h: both parts.
@@ -96,7 +96,7 @@ fn select_good(byte: u8) -> bool
     match byte / 16 % 4 {
         3 => true,
         0 => false,
-        _ => is_listed(&CONNECTORS, byte % 16),
+        _ => CONNECTORS.contains(&(byte % 16)),
     }
 }
 
