@@ -16,20 +16,18 @@ use script_words::{AREA, bytes_at, number_at};
 use script_write::write_fields;
 use sdap_read::read_advert;
 use sums::sums_to_zero;
-use terms::{Answer, answer_number};
+use terms::Answer;
 
 pub fn answer_advert(b: DisplayBox, line: &[u8], out: &mut [u8]) -> Answered
     ensures { Answers (writes b (read_text (read_of (bytes_at 1 line.now)))) result out.old out.new }
 {
     let mut bytes = [0u8; 1024];
     let n = bytes_at(line, 1, &mut bytes);
-    let r = read_advert(&bytes[..n]);
-    let answer = r.answer;
-    if answer_number(answer) != 0 {
-        return say_answer(b, out, answer);
+    let read = read_advert(&bytes[..n]);
+    if read.answer != Answer::Done {
+        return say_answer(b, out, read.answer);
     }
-    let fields = r.fields;
-    let at = put_advert(out, 0, fields);
+    let at = put_advert(out, 0, &read.fields);
     ended(b, out, at)
 }
 
@@ -37,10 +35,10 @@ pub fn answer_advert(b: DisplayBox, line: &[u8], out: &mut [u8]) -> Answered
 fn filled_by(answer: Answer) -> usize
     ensures { result ≡ filled answer }
 {
-    if answer_number(answer) != 0 {
-        return 0;
+    match answer {
+        Answer::Done => 122,
+        _ => 0,
     }
-    122
 }
 
 fn write_in(b: DisplayBox, line: &[u8], area: &mut [u8], out: &mut [u8]) -> Answered
@@ -64,8 +62,10 @@ pub fn answer_sum(b: DisplayBox, line: &[u8], out: &mut [u8]) -> Answered
 {
     let mut bytes = [0u8; 1024];
     let n = bytes_at(line, 1, &mut bytes);
-    if sums_to_zero(&bytes[..n]) {
-        return say(b, out, b"yes");
-    }
-    say(b, out, b"no")
+    let word = if sums_to_zero(&bytes[..n]) {
+        b"yes".as_slice()
+    } else {
+        b"no".as_slice()
+    };
+    say(b, out, word)
 }

@@ -11,7 +11,7 @@ use sdap::Fields;
 use sdap_write::write_advert;
 use terms::{Answer, GroupId, UnitId};
 
-// A word's number as a byte.
+// A word's number as a byte. Not one function with `short_in`: each cast needs its own bound.
 fn byte_in(line: &[u8], k: usize) -> u8
     ensures { result ≡ number_at 255 k line.now }
 {
@@ -37,12 +37,6 @@ pub fn write_fields(line: &[u8], area: &mut [u8]) -> Answer
     let l = bytes_at(line, 6, &mut location);
     let r = bytes_at(line, 13, &mut region);
     let n = bytes_at(line, 14, &mut name);
-    let accepted = [
-        number_at(line, 8, ANY),
-        number_at(line, 9, ANY),
-        number_at(line, 10, ANY),
-        number_at(line, 11, ANY),
-    ];
     let fields = Fields {
         category: byte_in(line, 2),
         product: &product[..p],
@@ -50,7 +44,12 @@ pub fn write_fields(line: &[u8], area: &mut [u8]) -> Answer
         power: short_in(line, 5),
         location: &location[..l],
         connected: number_at(line, 7, ANY),
-        accepted,
+        accepted: [
+            number_at(line, 8, ANY),
+            number_at(line, 9, ANY),
+            number_at(line, 10, ANY),
+            number_at(line, 11, ANY),
+        ],
         error: short_in(line, 12),
         region: &region[..r],
         name: &name[..n],

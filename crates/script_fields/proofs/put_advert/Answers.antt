@@ -6,6 +6,4 @@ use Rattle.script_fields.proofs.put_advert.Goals as goal
 pub returns : goal.returns
 unfolding advert_text
 returns c =
-    let third = c in
-    let second = third in
-    puts_then (puts_then second.put_head-b.ensures second.put_addresses-c.ensures) third.put_tail.ensures
+    puts_then (puts_then c.put_head-b.ensures c.put_addresses-c.ensures) c.put_tail.ensures

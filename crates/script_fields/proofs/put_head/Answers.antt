@@ -10,8 +10,4 @@ use Rattle.script_fields.proofs.put_head.Goals as goal
 pub returns : goal.returns
 unfolding head_text
 returns c =
-    let location = c in
-    let power = location in
-    let product = power in
-    let category = product in
-    puts_then (puts_forms (ascii " serial " ∷ ascii " power " ∷ []) _ (puts_then category.put_number_text-b.ensures product.put_bytes_text-c.ensures) power.put_numbers-d.ensures refl refl) location.put_bytes_text.ensures
+    puts_then (puts_forms (ascii " serial " ∷ ascii " power " ∷ []) _ (puts_then c.put_number_text-b.ensures c.put_bytes_text-c.ensures) c.put_numbers-d.ensures refl refl) c.put_bytes_text.ensures

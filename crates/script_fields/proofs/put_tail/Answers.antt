@@ -10,8 +10,4 @@ use Rattle.script_fields.proofs.put_tail.Goals as goal
 pub returns : goal.returns
 unfolding tail_text
 returns c =
-    let ids = c in
-    let name = ids in
-    let region = name in
-    let error = region in
-    puts_forms (ascii " group " ∷ ascii " unit " ∷ []) _ (puts_then (puts_then error.put_number_text-b.ensures region.put_bytes_text-c.ensures) name.put_bytes_text-d.ensures) ids.put_numbers.ensures refl refl
+    puts_forms (ascii " group " ∷ ascii " unit " ∷ []) _ (puts_then (puts_then c.put_number_text-b.ensures c.put_bytes_text-c.ensures) c.put_bytes_text-d.ensures) c.put_numbers.ensures refl refl
