@@ -3,8 +3,7 @@ use mathlib.Core.Path.{◌≡◌, sym, ◌∙◌}
 use mathlib.Core.Bool.{Bool}
 use mathlib.Core.List.{List}
 use Prim.Native.Nat.{ℕ}
-use Rattle.sdcp_asks.specs.Asks.{is_ours, heard_of, cast_of}
-use Rattle.sdcp_asks.specs.declared.Heard.{Heard}
+use Rattle.sdcp_asks.specs.Asks.{is_ours, heard_of, cast_of, Heard}
 
 pub is_ours_one : (m : List ℕ) (r r' : Bool) → r ≡ is_ours m → r' ≡ is_ours m → r ≡ r'
 is_ours_one m r r' p q = p ∙ sym q

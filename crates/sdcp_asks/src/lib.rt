@@ -3,95 +3,113 @@
 #![tactic(auto)]
 
 ghost use Rattle.std.specs.Prelude.{◌≡◌, ◌≤◌, length};
-ghost use Rattle.vmc_asks.specs.Asks.{asks_status};
-ghost use Rattle.sdcp_asks.specs.Asks.{is_ours, envelope_of, data_of, heard_of, cast_of};
+ghost use Rattle.vmc_asks.specs.Asks.{read_data};
+ghost use Rattle.sdcp_asks.specs.declared.Fault.TheVariants.{Broken};
+ghost use Rattle.sdcp_asks.specs.Asks.{fault_answer, is_ours, envelope_of, data_of, in_words, checked, heard_of, cast_of};
 
-use octets::{begins_with, byte_at, number2};
-use terms::{Answer, Envelope, Part};
-use vmc_asks::{Order, Words, asks_status, read_data};
+use octets::number2;
+use terms::{Answer, Part};
+use vmc_asks::{Order, asks_status, read_data};
 
-// What a packet asks, whoever is addressed.
+// Why a packet orders nothing, whoever is addressed.
 #[derive(Clone, Copy)]
-pub enum Heard {
+pub enum Fault {
     // 3 and 4, and by UDP 8: no reply
     Refused(Answer),
     // 9 to 12
     Broken(Part),
     // 6
     NotUnderstood,
-    Understood(Order),
+}
+
+// A part of the envelope that is wrong.
+impl From<Part> for Fault {
+    ghost from_gives = { λ part fault. fault ≡ Broken part };
+
+    fn from(part: Part) -> Fault {
+        Fault::Broken(part)
+    }
+}
+
+// What the box answers to a packet that orders nothing.
+impl From<Fault> for Answer {
+    ghost from_gives = { λ fault answer. answer ≡ fault_answer fault };
+
+    fn from(fault: Fault) -> Answer {
+        match fault {
+            Fault::Refused(answer) => answer,
+            Fault::Broken(part) => Answer::PartWrong(part),
+            Fault::NotUnderstood => Answer::NotUnderstood,
+        }
+    }
 }
 
 // Version, category and community.
 pub fn is_ours(m: &[u8]) -> bool
     ensures { result ≡ is_ours m.now }
 {
-    begins_with(m, b"\x03\x0BSONY")
+    m.starts_with(b"\x03\x0BSONY")
 }
 
 // Request, item and data length, in this order.
 #[tactic(auto, unfolding(crate::specs::Asks::envelope_of))]
-fn envelope_of(m: &[u8]) -> Envelope
+fn envelope_of(m: &[u8]) -> Result<(), Part>
     requires { 13 ≤ length m.now }
     ensures { result ≡ envelope_of m.now }
 {
-    if byte_at(m, 8) != 0 {
-        return Envelope::Wrong(Part::Request);
+    if m[8] != 0 {
+        return Err(Part::Request);
     }
-    if number2(byte_at(m, 9), byte_at(m, 10)) != 0xB000 {
-        return Envelope::Wrong(Part::Item);
+    if number2(m[9], m[10]) != 0xB000 {
+        return Err(Part::Item);
     }
-    let size = number2(byte_at(m, 11), byte_at(m, 12)) as usize;
+    let size = number2(m[11], m[12]) as usize;
     if 499 < size {
-        return Envelope::Wrong(Part::TooLong);
+        return Err(Part::TooLong);
     }
     if size != m.len() - 13 {
-        return Envelope::Wrong(Part::NotMatching);
+        return Err(Part::NotMatching);
     }
-    Envelope::Good
+    Ok(())
 }
 
-// What the packet asks. The data area, from byte 13 to its end, is lent on to the word reader.
-pub fn hear(m: &[u8]) -> Heard
-    ensures { result ≡ heard_of m.now }
+// Length, front and envelope, in this order: the first fault, if there is one.
+fn checked(m: &[u8]) -> Result<(), Fault>
+    ensures { result ≡ checked m.now }
 {
     if m.len() < 13 {
-        return Heard::Refused(Answer::WrongLength);
+        return Err(Fault::Refused(Answer::WrongLength));
     }
     if !is_ours(m) {
-        return Heard::Refused(Answer::NotForUs);
+        return Err(Fault::Refused(Answer::NotForUs));
     }
-    if let Envelope::Wrong(part) = envelope_of(m) {
-        return Heard::Broken(part);
-    }
-    let Words::Understood(o) = read_data(&m[13..]) else {
-        return Heard::NotUnderstood;
-    };
-    Heard::Understood(o)
+    envelope_of(m)?;
+    Ok(())
 }
 
-// Whether the data area asks for a status. It is lent on as a part, as to the word reader.
-fn asks_for_status(m: &[u8]) -> bool
-    ensures { result ≡ asks_status (data_of m.now) }
+// What the words of the data area ask, which goes from byte 13 to the packet's end.
+fn words_of(m: &[u8]) -> Result<Order, Fault>
+    requires { 13 ≤ length m.now }
+    ensures { result ≡ in_words (read_data (data_of m.now)) }
 {
-    if m.len() < 13 {
-        return false;
-    }
-    asks_status(&m[13..])
+    read_data(&m[13..]).ok_or(Fault::NotUnderstood)
+}
+
+// What the packet asks.
+pub fn hear(m: &[u8]) -> Result<Order, Fault>
+    ensures { result ≡ heard_of m.now }
+{
+    checked(m)?;
+    words_of(m)
 }
 
 // What a packet asks that came by UDP. What it asks for is looked at behind the envelope, so that 8 comes after 12 and before 6.
-pub fn hear_cast(m: &[u8]) -> Heard
+pub fn hear_cast(m: &[u8]) -> Result<Order, Fault>
     ensures { result ≡ cast_of m.now }
 {
-    let h = hear(m);
-    if !asks_for_status(m) {
-        return h;
+    checked(m)?; // 3, 4 and 9 to 12
+    if asks_status(&m[13..]) {
+        return Err(Fault::Refused(Answer::StatusByBroadcast));
     }
-    match h {
-        Heard::Refused(answer) => Heard::Refused(answer),
-        Heard::Broken(part) => Heard::Broken(part),
-        Heard::NotUnderstood => Heard::Refused(Answer::StatusByBroadcast),
-        Heard::Understood(_) => Heard::Refused(Answer::StatusByBroadcast),
-    }
+    words_of(m)
 }

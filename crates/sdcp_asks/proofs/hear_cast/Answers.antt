@@ -1,44 +1,33 @@
--- `hear_cast` refuses a question behind the envelope, and else gives what was heard.
-use Prim.Native.Nat.{ℕ}
-use mathlib.Core.Path.{◌≡◌, sym, ap, ◌∙◌}
-use mathlib.Core.Bool.{Bool, true}
-use mathlib.Core.List.{List}
+-- `hear_cast` gives the first fault, then refuses a question, and else gives what the words of the data say.
+use mathlib.Core.Path.{sym, ap, ◌∙◌}
+use native.Mathlib.Omega.{arith}
+use Rattle.std.proofs.lemmas.Result.{err_from_is_err_and}
+use Rattle.laws.proofs.Lists.{rest}
 use Rattle.vmc_asks.specs.Asks.{asks_status}
-use Rattle.sdcp_asks.specs.Asks.{data_of, heard_of, unless_status, cast_of}
-use Rattle.sdcp_asks.specs.declared.Heard.{Heard}
-use Rattle.sdcp_asks.proofs.Cast.{cast_plain}
+use Rattle.sdcp_asks.proofs.Faults.{sound_long, sound_cast, question_cast, fault_cast}
 use Rattle.sdcp_asks.proofs.hear_cast.Goals as goal
 
--- a question, from what was heard and what the code asked
-asked : (m : List ℕ) (y : Bool) (h x : Heard) → y ≡ asks_status (data_of m) → y ≡ true → h ≡ heard_of m → h ≡ x → unless_status true x ≡ cast_of m
-unfolding cast_of
-asked m y h x e t f g = sym (ap (λ (b : Bool). unless_status b (heard_of m)) (sym e ∙ t) ∙ ap (unless_status true) (sym f ∙ g))
+pub returns-in_err-checked : goal.returns-in_err-checked
+returns-in_err-checked c =
+    let p = err_from_is_err_and c.from_residual.result c.from_residual.ensures.1 in
+    rw (p.1, p.2) (sym (fault_cast c.args.m.now _ (sym c.checked.ensures ∙ c.in_err-checked.was)))
 
-pub returns-then-not-asks_for_status : goal.returns-then-not-asks_for_status
-returns-then-not-asks_for_status c =
-    let q = c.asks_for_status in
-    c.hear-h.ensures ∙ sym (cast_plain c.args.m.now (sym q.ensures ∙ c.if-not-asks_for_status.true))
+pub slice_bounds-asks_status-count : goal.slice_bounds-asks_status-count
+slice_bounds-asks_status-count c = sound_long c.args.m.now _ (sym c.checked.ensures ∙ c.in_ok-checked.was)
 
-pub returns-in-Refused : goal.returns-in-Refused
-returns-in-Refused c =
-    let q = c.asks_for_status in
-    let h = c.hear-h in
-    asked c.args.m.now q.result h.result _ q.ensures (c.if-not-asks_for_status.false) h.ensures c.in-Refused.is
+pub slice_bounds-asks_status-start : goal.slice_bounds-asks_status-start
+slice_bounds-asks_status-start c = let h = sound_long c.args.m.now _ (sym c.checked.ensures ∙ c.in_ok-checked.was) in omega (arith, h)
 
-pub returns-in-Broken : goal.returns-in-Broken
-returns-in-Broken c =
-    let q = c.asks_for_status in
-    let h = c.hear-h in
-    asked c.args.m.now q.result h.result _ q.ensures (c.if-not-asks_for_status.false) h.ensures c.in-Broken.is
+pub returns-then-asks_status : goal.returns-then-asks_status
+returns-then-asks_status c =
+    let m = c.args.m.now in
+    sym (question_cast m _ (sym c.checked.ensures ∙ c.in_ok-checked.was) (ap asks_status (sym (rest m 13)) ∙ sym c.asks_status.ensures ∙ c.if-asks_status.true))
 
-pub returns-in-NotUnderstood : goal.returns-in-NotUnderstood
-returns-in-NotUnderstood c =
-    let q = c.asks_for_status in
-    let h = c.hear-h in
-    asked c.args.m.now q.result h.result _ q.ensures (c.if-not-asks_for_status.false) h.ensures c.in-NotUnderstood.is
+pub words_of-requires : goal.words_of-requires
+words_of-requires c = sound_long c.args.m.now _ (sym c.checked.ensures ∙ c.in_ok-checked.was)
 
-pub returns-in-Understood : goal.returns-in-Understood
-returns-in-Understood c =
-    let q = c.asks_for_status in
-    let h = c.hear-h in
-    asked c.args.m.now q.result h.result _ q.ensures (c.if-not-asks_for_status.false) h.ensures c.in-Understood.is
+pub returns : goal.returns
+returns c =
+    let m = c.args.m.now in
+    c.words_of.ensures
+    ∙ sym (sound_cast m _ (sym c.checked.ensures ∙ c.in_ok-checked.was) (ap asks_status (sym (rest m 13)) ∙ sym c.asks_status.ensures ∙ c.if-asks_status.false))
