@@ -12,9 +12,10 @@ use lib.Seq.{take_at}
 use Rattle.laws.specs.Bytes.{laid}
 use Rattle.laws.proofs.Areas.{laid_fits, laid_first, laid_more, over_front}
 use Rattle.decimals.specs.Decimals.{in_digits, numeral, spelled}
-use Rattle.decimals.specs.declared.Numeral.{Numeral}
+use Rattle.decimals.specs.Texts.{text}
+use Rattle.decimals.specs.declared.Text.{Text}
+use Rattle.decimals.proofs.Texts.{numeral_slice}
 use Rattle.vmc_tells.specs.Phrases.{textual}
-use Rattle.vmc_tells.specs.declared.Text.{Text}
 
 zeros : ℕ → List ℕ
 zeros n = replicate n 0
@@ -27,7 +28,7 @@ drop_zeros (suc n) (suc m) h = drop_zeros n m (omega arith) ∙ ap zeros (let e 
 
 -- two parts laid over twenty zeros, one behind the other
 pub two_parts : (e f vs ws : List ℕ) (n m : ℕ) → e ≡ laid (replicate 20 0) 0 vs → f ≡ laid e n ws → n ≡ length vs → m ≡ length ws → length vs + length ws ≤ 20 → record { bytes = f; len = n + m } ≡ textual (vs ++ ws)
-unfolding textual zeros
+unfolding text zeros
 two_parts e f vs ws n m p q a b h =
     let first = laid_first {d = replicate 20 0} {n = 0} e vs n n p (sym a) (zero-add n) (omega (arith, a)) in
     let both = laid_more f ws m (n + m) first q (sym b) refl (omega (arith, a, b)) in
@@ -50,13 +51,9 @@ numeral_short v = go (ltb v 10) (ltb v 100)
     go false true = omega arith
     go false false = omega arith
 
-pub digits_front : (v : ℕ) (n : Numeral) → n ≡ spelled v → take n.len n.bytes ≡ numeral v
-unfolding spelled
-digits_front v n e = ap (λ (x : Numeral). take x.len x.bytes) e ∙ take_at (numeral v) (replicate (3 - length (numeral v)) 0) (length (numeral v)) refl
-
-pub digits_length : (v : ℕ) (n : Numeral) → n ≡ spelled v → n.len ≡ length (numeral v)
-unfolding spelled
-digits_length v n e = ap (λ (x : Numeral). x.len) e
+pub digits_length : (v : ℕ) (n : Text 3) → n ≡ spelled v → n.len ≡ length (numeral v)
+unfolding spelled text
+digits_length v n e = ap (λ (x : Text 3). x.len) e
 
 pub three : (b : List ℕ) → length b ≡ 3 → get_or b 0 0 ∷ get_or b 1 0 ∷ get_or b 2 0 ∷ [] ≡ b
 three [] e = absurd (omega arith)
@@ -66,21 +63,17 @@ three (x ∷ y ∷ z ∷ []) e = refl
 three (x ∷ y ∷ z ∷ w ∷ l) e = absurd (omega arith)
 
 -- a sign before the digits
-pub signed_front : (s v : ℕ) (n : Numeral) → n ≡ spelled v → length n.bytes ≡ 3 → take (n.len + 1) (s ∷ get_or n.bytes 0 0 ∷ get_or n.bytes 1 0 ∷ get_or n.bytes 2 0 ∷ []) ≡ s ∷ numeral v
+pub signed_front : (s v : ℕ) (n : Text 3) → n ≡ spelled v → length n.bytes ≡ 3 → take (n.len + 1) (s ∷ get_or n.bytes 0 0 ∷ get_or n.bytes 1 0 ∷ get_or n.bytes 2 0 ∷ []) ≡ s ∷ numeral v
 signed_front s v n e l =
-    ap (λ (b : List ℕ). take (n.len + 1) (s ∷ b)) (three n.bytes l) ∙ ap (λ (k : ℕ). take k (s ∷ n.bytes)) (add-one n.len) ∙ ap (λ (b : List ℕ). s ∷ b) (digits_front v n e)
+    ap (λ (b : List ℕ). take (n.len + 1) (s ∷ b)) (three n.bytes l) ∙ ap (λ (k : ℕ). take k (s ∷ n.bytes)) (add-one n.len) ∙ ap (λ (b : List ℕ). s ∷ b) (numeral_slice n v e)
 
--- a text's front is read back by its length
-pub text_front : (l : List ℕ) (t : Text) → t ≡ textual l → take t.len t.bytes ≡ l
-unfolding textual
-text_front l t e = ap (λ (x : Text). take x.len x.bytes) e ∙ take_at l (replicate (20 - length l) 0) (length l) refl
+-- a text's length
+pub text_length_lem : (l : List ℕ) (t : Text 20) → t ≡ textual l → t.len ≡ length l
+unfolding text
+text_length_lem l t e = ap (λ (x : Text 20). x.len) e
 
-pub text_length_lem : (l : List ℕ) (t : Text) → t ≡ textual l → t.len ≡ length l
-unfolding textual
-text_length_lem l t e = ap (λ (x : Text). x.len) e
-
-pub text_fits : (l : List ℕ) (t : Text) → t ≡ textual l → length t.bytes ≡ 20 → length l ≤ 20
-unfolding textual zeros
+pub text_fits : (l : List ℕ) (t : Text 20) → t ≡ textual l → length t.bytes ≡ 20 → length l ≤ 20
+unfolding text zeros
 text_fits l t e h =
-    let q : length l + length (zeros (20 - length l)) ≡ 20 = sym (length-append l (zeros (20 - length l))) ∙ ap (λ (x : Text). length x.bytes) (sym e) ∙ h in
+    let q : length l + length (zeros (20 - length l)) ≡ 20 = sym (length-append l (zeros (20 - length l))) ∙ ap (λ (x : Text 20). length x.bytes) (sym e) ∙ h in
     omega (arith, q)

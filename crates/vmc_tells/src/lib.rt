@@ -5,9 +5,9 @@ ghost use Rattle.std.specs.Prelude.{◌≡◌, ◌≤◌, ◌++◌, length};
 ghost use Rattle.decimals.specs.Decimals.{numeral};
 ghost use Rattle.setting_texts.specs.Names.{lead_of, word_of};
 ghost use Rattle.vmc_tells.specs.Phrases.{textual, spelled};
-ghost use Rattle.vmc_tells.specs.Texts.{size_of, sign_of, shift_words, set_words};
+ghost use Rattle.vmc_tells.specs.Texts.{sign_of, shift_words, set_words};
 
-use decimals::numeral_of;
+use decimals::{Text, numeral_of};
 use octets::lay;
 use setting_texts::{lead_length, put_lead, put_word, word_length};
 use settings::LEVEL_COUNT;
@@ -20,15 +20,8 @@ pub enum Says {
     Offset(usize, i8),
 }
 
-// Words at the front of twenty bytes.
-#[derive(Clone, Copy)]
-pub struct Text {
-    pub bytes: [u8; 20],
-    pub len: usize,
-}
-
 // A name with what parts it from its value, and the words of a value behind it.
-fn phrase(k: usize, value: &[u8]) -> Text
+fn phrase(k: usize, value: &[u8]) -> Text<20>
     requires { length value.now ≤ 7 }
     ensures { result ≡ textual (lead_of k ++ value.now) }
 {
@@ -43,27 +36,23 @@ fn phrase(k: usize, value: &[u8]) -> Text
 }
 
 // A level with its number.
-fn spell_level(k: usize, v: u8) -> Text
+fn spell_level(k: usize, v: u8) -> Text<20>
     ensures { result ≡ textual (lead_of k ++ numeral v) }
 {
-    let number = numeral_of(v);
-    let digits = number.bytes;
-    let n = number.len;
-    phrase(k, &digits[..n])
+    phrase(k, numeral_of(v).as_slice())
 }
 
 // A choice with its word.
-fn spell_choice(k: usize, v: u8) -> Text
+fn spell_choice(k: usize, v: u8) -> Text<20>
     ensures { result ≡ textual (lead_of k ++ word_of k v) }
 {
     let mut word = [0u8; 7];
     put_word(&mut word, 0, k, v as usize);
-    let n = word_length(k, v as usize);
-    phrase(k, &word[..n])
+    phrase(k, &word[..word_length(k, v as usize)])
 }
 
 // A setting with its value.
-fn spell_value(k: usize, v: u8) -> Text
+fn spell_value(k: usize, v: u8) -> Text<20>
     ensures { result ≡ textual (set_words k v) }
 {
     if k < LEVEL_COUNT {
@@ -72,43 +61,30 @@ fn spell_value(k: usize, v: u8) -> Text
     spell_choice(k, v)
 }
 
-// The size of a shift.
-fn size_of(z: i8) -> u8
-    ensures { result ≡ size_of z }
-{
-    if 0 <= z {
-        return z as u8;
-    }
-    let y = 0 - (z + 1);
-    y as u8 + 1
-}
-
 // The sign of a shift.
 fn sign_of(z: i8) -> u8
     ensures { result ≡ sign_of z }
 {
-    if 0 <= z {
-        return b'+';
+    match z {
+        0.. => b'+',
+        _ => b'-',
     }
-    b'-'
 }
 
 // A shift with its sign, save 0.
-fn spell_shift(k: usize, z: i8) -> Text
+fn spell_shift(k: usize, z: i8) -> Text<20>
     ensures { result ≡ textual (lead_of k ++ shift_words z) }
 {
     if z == 0 {
         return phrase(k, b"0");
     }
-    let number = numeral_of(size_of(z));
-    let digits = number.bytes;
-    let n = number.len;
-    let signed = [sign_of(z), digits[0], digits[1], digits[2]];
-    phrase(k, &signed[..n + 1])
+    let size = numeral_of(z.unsigned_abs());
+    let [a, b, c] = size.bytes;
+    phrase(k, &[sign_of(z), a, b, c][..size.len + 1])
 }
 
 // The words of what is told.
-pub fn spell(t: Says) -> Text
+pub fn spell(t: Says) -> Text<20>
     ensures { result ≡ spelled t }
 {
     match t {

@@ -5,13 +5,14 @@ use mathlib.Core.List.{◌++◌}
 use mir.Syntax.{w8}
 use mir.Val.{to_z, of_z}
 use borrow.Author.Rules.{rules}
+use Rattle.decimals.specs.Texts.{text}
 use Rattle.setting_texts.specs.Names.{lead_of}
 use Rattle.vmc_tells.specs.Phrases.{textual}
 use Rattle.vmc_tells.specs.Texts.{shift_words, move_words, text_of}
 use Rattle.vmc_tells.proofs.spell.Goals as goal
 
 pub returns-in-Bare : goal.returns-in-Bare
-unfolding text_of textual
+unfolding text_of text
 returns-in-Bare c = rw c.in-Bare.is
 
 pub returns-in-Value : goal.returns-in-Value

@@ -18,4 +18,4 @@ pub returns : goal.returns
 returns c =
     let a = c.args in
     c.phrase.ensures ∙ ap (λ (d : List ℕ). textual (lead_of a.k ++ d))
-    (word a.k a.v c.word_length-n.result c.put_word.new.out c.word_length-n.ensures c.put_word.ensures)
+    (word a.k a.v c.word_length.result c.put_word.new.out c.word_length.ensures c.put_word.ensures)
