@@ -9,6 +9,7 @@ use lib.Dec.{eqb, leb, ltb}
 use lib.IntN.{ℤ, pos}
 use lib.ListN.{length, get_or, set, get_or-replicate}
 use lib.Seq.{get_or-set_same, set-get_or}
+use Rattle.std.specs.Prelude.{Some}
 use Rattle.laws.specs.Bytes.{ascii}
 use Rattle.laws.proofs.Lists.{every_at}
 use Rattle.settings.specs.Table.{flip_place, no_flip, place_count, name_count, setting_count}
@@ -22,7 +23,6 @@ use Rattle.vmc_tells.specs.Texts.{text_of, move_words}
 use Rattle.vmc_asks.specs.declared.Order.{Order}
 use Rattle.vmc_asks.specs.declared.Order.TheVariants.{Set, Shift, Reset, Get}
 use Rattle.vmc_tells.specs.declared.Says.TheVariants.{Value, Offset}
-use Rattle.vmc_asks.specs.declared.Words.TheVariants.{Understood}
 use Rattle.vmc.proofs.Flip.{is_flip, flip_from, flip_below, says_it, says_not, says_on, to_on, to_none, flip_value, flip_assigned, value_fits, assigned_back, assigned_at, alters}
 use Rattle.vmc.proofs.ReadBack.{Phrase, read_back, set_back, move_back}
 use Rattle.vmc.proofs.Validity.{understood_fits}
@@ -51,7 +51,7 @@ told_phrase k w v t h = go (ltb k setting_count) refl
         subst (λ (j : ℕ). Phrase (ascii "STATset " ++ move_words j offset) (Shift (k - setting_count) offset)) (sym q) (move_back (k - setting_count) offset (omega arith) (every_at ok_shift w.shifts (k - setting_count) (pos 0) (parts w v).shifts_ok (omega arith)))
 
 -- each STATget's words, put behind `STATset `, are understood and order the present value
-pub told_back : (k : ℕ) (w : WRecord) → ok_w w ≡ true → length w.shifts ≡ 2 → k < name_count → read_data (ascii "STATset " ++ text_of (says_of (Get k) w)) ≡ Understood (present k w)
+pub told_back : (k : ℕ) (w : WRecord) → ok_w w ≡ true → length w.shifts ≡ 2 → k < name_count → read_data (ascii "STATset " ++ text_of (says_of (Get k) w)) ≡ Some (present k w)
 told_back k w v t h = read_back _ (present k w) (told_phrase k w v t h)
 
 -- Document 02, §2: "our own replies still end bare"
@@ -75,14 +75,14 @@ unfolding says_of
 setting_says k w h = ap (λ (b : Bool). cond b (Value k (value_at k w.settings)) (Offset k (get_or w.shifts (k - setting_count) (pos 0)))) (lt-ltb k setting_count h)
 
 -- a value that was set is told
-pub set_told : (d : List ℕ) (k v : ℕ) (w : WRecord) → read_data d ≡ Understood (Set k v) → length w.settings ≡ place_count → says_of (Get k) (carried (Set k v) w) ≡ Value k v
+pub set_told : (d : List ℕ) (k v : ℕ) (w : WRecord) → read_data d ≡ Some (Set k v) → length w.settings ≡ place_count → says_of (Get k) (carried (Set k v) w) ≡ Value k v
 unfolding carried
 set_told d k v w e s =
     let f = understood_fits d (Set k v) e in
     setting_says k (carried (Set k v) w) f.0 ∙ ap (Value k) (assigned_at k v w.settings f.0 f.1 s)
 
 -- a shift that was set is told
-pub shift_told : (d : List ℕ) (axis : ℕ) (z : ℤ) (w : WRecord) → read_data d ≡ Understood (Shift axis z) → length w.shifts ≡ 2 → says_of (Get (setting_count + axis)) (carried (Shift axis z) w) ≡ Offset (setting_count + axis) z
+pub shift_told : (d : List ℕ) (axis : ℕ) (z : ℤ) (w : WRecord) → read_data d ≡ Some (Shift axis z) → length w.shifts ≡ 2 → says_of (Get (setting_count + axis)) (carried (Shift axis z) w) ≡ Offset (setting_count + axis) z
 unfolding says_of carried
 shift_told d axis z w e s =
     let h = (understood_fits d (Shift axis z) e).0 in

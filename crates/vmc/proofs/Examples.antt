@@ -5,6 +5,7 @@ use mathlib.Core.Bool.{Bool, true, false, cond}
 use mathlib.Core.List.{List, [], ◌∷◌, ◌++◌, map}
 use lib.IntN.{pos, negsuc}
 use lib.ListN.{get_or, set, replicate}
+use Rattle.std.specs.Prelude.{Option, Some, None}
 use Rattle.laws.specs.Bytes.{ascii}
 use Rattle.laws.specs.Lists.{every}
 use Rattle.decimals.specs.Decimals.{is_digit, decimal, leads_zero, is_numeral, up_to, in_digits, numeral}
@@ -19,18 +20,16 @@ use Rattle.vmc_tells.specs.Texts.{value_words, shift_words, set_words, move_word
 use Rattle.vmc_asks.specs.declared.Order.{Order}
 use Rattle.vmc_asks.specs.declared.Order.TheVariants.{Set, Shift, Reset, Get}
 use Rattle.vmc_tells.specs.declared.Says.TheVariants.{Value, Offset}
-use Rattle.vmc_asks.specs.declared.Words.{Words}
-use Rattle.vmc_asks.specs.declared.Words.TheVariants.{Understood, NotUnderstood}
 use Rattle.vmc.proofs.AskedBack.{touches}
 
 -- the record after some words, and the words that then go back; words that are not understood do neither
-after : Words → WRecord → WRecord
-after (Understood o) w = carried o w
-after NotUnderstood w = w
+after : Option Order → WRecord → WRecord
+after (Some o) w = carried o w
+after None w = w
 
-reply : Words → WRecord → List ℕ
-reply (Understood o) w = text_of (says_of o w)
-reply NotUnderstood w = []
+reply : Option Order → WRecord → List ℕ
+reply (Some o) w = text_of (says_of o w)
+reply None w = []
 
 -- * `STATset VOLUME 40`, "Then `STATget VOLUME`: length 9, `VOLUME 40`"
 bench_volume : reply (read_data (ascii "STATget VOLUME")) (after (read_data (ascii "STATset VOLUME 40")) start_w) ≡ ascii "VOLUME 40"
@@ -93,20 +92,20 @@ taken =
     ascii "STATget SHIFTV" ∷ []
 
 taken_as : map read_data taken ≡
-    Understood (Set 2 100) ∷
-    Understood (Shift 0 (negsuc 29)) ∷
-    Understood (Shift 1 (pos 5)) ∷
-    Understood (Shift 1 (pos 5)) ∷
-    Understood (Shift 1 (pos 0)) ∷
-    Understood (Set 3 2) ∷
-    Understood (Set 4 1) ∷
-    Understood (Set 5 1) ∷
-    Understood (Set 14 1) ∷
-    Understood (Set 20 1) ∷
-    Understood Reset ∷
-    Understood (Get 5) ∷
-    Understood (Get 18) ∷
-    Understood (Get 22) ∷ []
+    Some (Set 2 100) ∷
+    Some (Shift 0 (negsuc 29)) ∷
+    Some (Shift 1 (pos 5)) ∷
+    Some (Shift 1 (pos 5)) ∷
+    Some (Shift 1 (pos 0)) ∷
+    Some (Set 3 2) ∷
+    Some (Set 4 1) ∷
+    Some (Set 5 1) ∷
+    Some (Set 14 1) ∷
+    Some (Set 20 1) ∷
+    Some Reset ∷
+    Some (Get 5) ∷
+    Some (Get 18) ∷
+    Some (Get 22) ∷ []
 unfolding taken read_data read_words trimmed unspaced unterminated read_set read_get value_order up_to is_numeral leads_zero is_digit decimal led_by named_by chosen_by shift_order
 taken_as = refl
 
@@ -114,12 +113,12 @@ taken_as = refl
 ends : List (List ℕ)
 ends = [] ∷ (0x20 ∷ []) ∷ (0x20 ∷ 0x20 ∷ []) ∷ (0x00 ∷ []) ∷ (0x20 ∷ 0x00 ∷ []) ∷ (0x20 ∷ 0x20 ∷ 0x00 ∷ []) ∷ []
 
-ended : List ℕ → List Words
+ended : List ℕ → List (Option Order)
 ended words = map (λ (e : List ℕ). read_data (words ++ e)) ends
 
 -- each order with each of these ends
 ended_as : map ended (ascii "STATset VOLUME 40" ∷ ascii "STATset RESET" ∷ ascii "STATget VOLUME" ∷ ascii "STATget RGB RANGE" ∷ []) ≡
-    map (λ (w : Words). replicate 6 w) (Understood (Set 2 40) ∷ Understood Reset ∷ Understood (Get 2) ∷ Understood (Get 5) ∷ [])
+    map (λ (w : Option Order). replicate 6 w) (Some (Set 2 40) ∷ Some Reset ∷ Some (Get 2) ∷ Some (Get 5) ∷ [])
 unfolding ends ended read_data read_words trimmed unspaced unterminated read_set read_get value_order up_to is_numeral leads_zero is_digit decimal led_by named_by
 ended_as = refl
 
@@ -209,9 +208,9 @@ nothing_left =
     ascii "STATget " ∷
     (ascii "STATget " ++ (0x00 ∷ [])) ∷ []
 
-is_strange : Words → Bool
-is_strange (Understood o) = false
-is_strange NotUnderstood = true
+is_strange : Option Order → Bool
+is_strange (Some o) = false
+is_strange None = true
 
 strange : List ℕ → Bool
 strange d = is_strange (read_data d)

@@ -11,32 +11,27 @@ use lib.Dec.{T, eqb, leb, ltb, eqb→eq}
 use lib.ListN.{length, get_or, drop}
 use lib.IntN.{ℤ, pos, negsuc}
 use borrow.Author.Tests.{leb-true, le-leb, lt-ltb, le-ltb, ltb-true, ltb-false, ne_eqb}
+use Rattle.std.specs.Prelude.{Option, Some, None}
 use Rattle.laws.specs.Bytes.{ascii, same, begins}
 use Rattle.laws.proofs.Conditions.{and_first, and_second, false_true}
 use Rattle.laws.proofs.Lists.{same_is}
 use Rattle.laws.proofs.Table.{below}
 use Rattle.laws.proofs.Texts.{begins_front}
 use Rattle.decimals.specs.Decimals.{decimal, is_numeral, up_to, numeral}
-use Rattle.decimals.specs.declared.Number.{Number}
-use Rattle.decimals.specs.declared.Number.TheVariants.{Is, Not}
 use Rattle.decimals.proofs.Decimals.{decimal_fits, in_digits_decimal}
 use Rattle.decimals.proofs.Numerals.{numeral_digits, numeral_long}
 use Rattle.settings.specs.Table.{most_shift, name_count, setting_count, tops}
 use Rattle.panels.specs.Valid.{ok_shift}
 use Rattle.setting_texts.specs.Names.{name_of, lead_of, words_of, word_of}
 use Rattle.setting_words.specs.Names.{named_by, led_by, chosen_by}
-use Rattle.setting_words.specs.declared.Found.{Found}
-use Rattle.setting_words.specs.declared.Found.TheVariants.{At, Nothing}
 use Rattle.setting_words.proofs.Search.{Right, first_right}
 use Rattle.setting_words.proofs.Choices.{led_right}
 use Rattle.trimming.specs.Trimming.{trimmed}
 use Rattle.trimming.proofs.Trimmed.{Ended}
-use Rattle.vmc_asks.specs.Asks.{level_of, level_order, choice_order, shift_by, shift_order, value_order, set_order, read_set, get_order, read_get, read_words, read_data}
+use Rattle.vmc_asks.specs.Asks.{level_of, set_to, shift_by, shift_order, value_order, set_order, read_set, get_order, read_get, read_words, read_data}
 use Rattle.vmc_tells.specs.Texts.{value_words, shift_words, set_words, move_words}
 use Rattle.vmc_asks.specs.declared.Order.{Order}
 use Rattle.vmc_asks.specs.declared.Order.TheVariants.{Set, Shift, Reset, Get}
-use Rattle.vmc_asks.specs.declared.Words.{Words}
-use Rattle.vmc_asks.specs.declared.Words.TheVariants.{Understood, NotUnderstood}
 use Rattle.vmc_asks.proofs.Ended.{read_ended}
 use Rattle.vmc.proofs.ReadBack.{Phrase, read_back, set_back, move_back, plain_back_lem, reset_back, get_back}
 
@@ -60,21 +55,21 @@ phrase _ _ (stat_set _ _ resets) = reset_back
 phrase _ _ (stat_get k h) = get_back k h
 
 -- such data is understood, with spaces behind it and behind these one 00h or none
-pub all : (t d : List ℕ) (o : Order) → Asks t o → Ended t d → read_data d ≡ Understood o
+pub all : (t d : List ℕ) (o : Order) → Asks t o → Ended t d → read_data d ≡ Some o
 all t d o a e = let p = phrase t o a in read_ended t d p.ends_bare_holds e ∙ read_back t o p
 
 -- what is known of the order, where there is one
-abbrev Says : (Order → Type 0) → Words → Type 0
-Says P (Understood o) = P o
-Says P NotUnderstood = Unit {0}
+abbrev Says : (Order → Type 0) → Option Order → Type 0
+Says P (Some o) = P o
+Says P None = Unit {0}
 
-pick : (P : Order → Type 0) (b : Bool) (x y : Words) → (b ≡ true → Says P x) → (b ≡ false → Says P y) → Says P (cond b x y)
+pick : (P : Order → Type 0) (b : Bool) (x y : Option Order) → (b ≡ true → Says P x) → (b ≡ false → Says P y) → Says P (cond b x y)
 pick P true x y f g = f refl
 pick P false x y f g = g refl
 
-carry : (P Q : Order → Type 0) → ((o : Order) → P o → Q o) → (x : Words) → Says P x → Says Q x
-carry P Q f (Understood o) p = f o p
-carry P Q f NotUnderstood p = tt
+carry : (P Q : Order → Type 0) → ((o : Order) → P o → Q o) → (x : Option Order) → Says P x → Says Q x
+carry P Q f (Some o) p = f o p
+carry P Q f None p = tt
 
 -- ---- levels: the words of a level are its numeral
 
@@ -107,15 +102,15 @@ pub record Level (t : List ℕ) (v : ℕ) : Type 0 where
   pub spelt : t ≡ numeral v
   pub most : v ≤ 100
 
-abbrev Reads : List ℕ → Number → Type 0
-Reads t (Is v) = Level t v
-Reads t Not = Unit {0}
+abbrev Reads : List ℕ → Option ℕ → Type 0
+Reads t (Some v) = Level t v
+Reads t None = Unit {0}
 
 level_says : (t : List ℕ) → Reads t (level_of t)
 unfolding up_to
 level_says t = go (is_numeral t && leb (decimal t) 100) refl
   where
-    go : (b : Bool) → (is_numeral t && leb (decimal t) 100) ≡ b → Reads t (cond b (Is (decimal t)) Not)
+    go : (b : Bool) → (is_numeral t && leb (decimal t) 100) ≡ b → Reads t (cond b (Some (decimal t)) None)
     go true e =
         let h = leb-true (decimal t) 100 (and_second (is_numeral t) (leb (decimal t) 100) e) in
         record { spelt = numeral_is t (and_first (is_numeral t) (leb (decimal t) 100) e) h; most = h }
@@ -128,14 +123,14 @@ level_bound : (k : ℕ) → k < 3 → get_or tops k 0 ≡ 100
 unfolding hundred
 level_bound k h = eqb→eq _ _ (below 3 hundred tt k h)
 
-level_order_lem : (k : ℕ) (t : List ℕ) → k < 3 → (x : Number) → Reads t x → Says (Spoken (lead_of k ++ t)) (level_order k x)
+level_set : (k : ℕ) (t : List ℕ) → k < 3 → (x : Option ℕ) → Reads t x → Says (Spoken (lead_of k ++ t)) (set_to k x)
 unfolding set_words value_words
-level_order_lem k t h (Is v) r =
+level_set k t h (Some v) r =
     let l = r.most in
     let b = level_bound k h in
     let e : set_words k v ≡ lead_of k ++ t = ap (λ (w : List ℕ). lead_of k ++ w) (rw (lt-ltb k 3 h) (sym r.spelt)) in
     subst (λ (s : List ℕ). Spoken s (Set k v)) e (sets k v (omega arith) (omega (arith, l, b)))
-level_order_lem k t h Not r = tt
+level_set k t h None r = tt
 
 -- ---- choices: the word that was found
 
@@ -146,46 +141,46 @@ word_bound : (k : ℕ) → k < setting_count → 3 ≤ k → get_or tops k 0 + 1
 unfolding bounded
 word_bound k h l = eqb→eq _ _ (subst (λ (b : Bool). T (b || eqb (get_or tops k 0 + 1) (length (words_of k)))) (le-ltb k 3 l) (below setting_count bounded tt k h))
 
-choice_order_lem : (k : ℕ) (t : List ℕ) → k < setting_count → 3 ≤ k → (x : Found) → Right (λ (v : ℕ). same (word_of k v) t) (length (words_of k)) x → Says (Spoken (lead_of k ++ t)) (choice_order k x)
+choice_set : (k : ℕ) (t : List ℕ) → k < setting_count → 3 ≤ k → (x : Option ℕ) → Right (λ (v : ℕ). same (word_of k v) t) (length (words_of k)) x → Says (Spoken (lead_of k ++ t)) (set_to k x)
 unfolding set_words value_words
-choice_order_lem k t h l (At v) r =
+choice_set k t h l (Some v) r =
     let s = r.small in
     let b = word_bound k h l in
     let e : set_words k v ≡ lead_of k ++ t = ap (λ (w : List ℕ). lead_of k ++ w) (rw (le-ltb k 3 l) (same_is (word_of k v) t r.passes)) in
     subst (λ (s : List ℕ). Spoken s (Set k v)) e (sets k v h (omega (arith, s, b)))
-choice_order_lem k t h l Nothing r = tt
+choice_set k t h l None r = tt
 
 -- ---- shifts: a sign and its size, or a size alone
 
-plus : (axis : ℕ) (t u : List ℕ) → axis < 2 → t ≡ ascii "+" ++ u → (x : Number) → Reads u x → Says (Spoken (lead_of (setting_count + axis) ++ t)) (shift_by axis false 1 x)
+plus : (axis : ℕ) (t u : List ℕ) → axis < 2 → t ≡ ascii "+" ++ u → (x : Option ℕ) → Reads u x → Says (Spoken (lead_of (setting_count + axis) ++ t)) (shift_by axis false 1 x)
 unfolding move_words shift_words ok_shift
-plus axis t u h f (Is n) r = pick (Spoken (lead_of (setting_count + axis) ++ t)) (leb 1 n && leb n most_shift) (Understood (Shift axis (pos n))) NotUnderstood go (λ e. tt)
+plus axis t u h f (Some n) r = pick (Spoken (lead_of (setting_count + axis) ++ t)) (leb 1 n && leb n most_shift) (Some (Shift axis (pos n))) None go (λ e. tt)
   where
     go : (leb 1 n && leb n most_shift) ≡ true → Spoken (lead_of (setting_count + axis) ++ t) (Shift axis (pos n))
     go e =
         let l = leb-true 1 n (and_first (leb 1 n) (leb n most_shift) e) in
         let w : shift_words (pos n) ≡ t = rw (ne_eqb n 0 (λ z. omega arith)) (sym (f ∙ ap (λ (y : List ℕ). ascii "+" ++ y) r.spelt)) in
         subst (λ (y : List ℕ). Spoken (lead_of (setting_count + axis) ++ y) (Shift axis (pos n))) w (moves axis (pos n) h (and_second (leb 1 n) (leb n most_shift) e))
-plus axis t u h f Not r = tt
+plus axis t u h f None r = tt
 
-minus : (axis : ℕ) (t u : List ℕ) → axis < 2 → t ≡ ascii "-" ++ u → (x : Number) → Reads u x → Says (Spoken (lead_of (setting_count + axis) ++ t)) (shift_by axis true 1 x)
+minus : (axis : ℕ) (t u : List ℕ) → axis < 2 → t ≡ ascii "-" ++ u → (x : Option ℕ) → Reads u x → Says (Spoken (lead_of (setting_count + axis) ++ t)) (shift_by axis true 1 x)
 unfolding move_words shift_words ok_shift
-minus axis t u h f (Is zero) r = tt
-minus axis t u h f (Is (suc n)) r = pick (Spoken (lead_of (setting_count + axis) ++ t)) (leb 1 (suc n) && leb (suc n) most_shift) (Understood (Shift axis (negsuc n))) NotUnderstood go (λ e. tt)
+minus axis t u h f (Some zero) r = tt
+minus axis t u h f (Some (suc n)) r = pick (Spoken (lead_of (setting_count + axis) ++ t)) (leb 1 (suc n) && leb (suc n) most_shift) (Some (Shift axis (negsuc n))) None go (λ e. tt)
   where
     go : (leb 1 (suc n) && leb (suc n) most_shift) ≡ true → Spoken (lead_of (setting_count + axis) ++ t) (Shift axis (negsuc n))
     go e =
         let l = leb-true (suc n) 30 (and_second (leb 1 (suc n)) (leb (suc n) most_shift) e) in
         let w : shift_words (negsuc n) ≡ t = rw (ne_eqb (n + 1) 0 (λ z. omega arith)) (ap (λ (m : ℕ). ascii "-" ++ numeral m) (let q : n + 1 ≡ suc n = omega arith in q)) ∙ sym (f ∙ ap (λ (y : List ℕ). ascii "-" ++ y) r.spelt) in
         subst (λ (y : List ℕ). Spoken (lead_of (setting_count + axis) ++ y) (Shift axis (negsuc n))) w (moves axis (negsuc n) h (rw (le-leb n 29 (omega arith))))
-minus axis t u h f Not r = tt
+minus axis t u h f None r = tt
 
-alone : (axis : ℕ) (t : List ℕ) → axis < 2 → (x : Number) → Reads t x → Says (Spoken (lead_of (setting_count + axis) ++ t)) (shift_by axis false 0 x)
-alone axis t h (Is n) r = pick (Spoken (lead_of (setting_count + axis) ++ t)) (leb 0 n && leb n most_shift) (Understood (Shift axis (pos n))) NotUnderstood go (λ e. tt)
+alone : (axis : ℕ) (t : List ℕ) → axis < 2 → (x : Option ℕ) → Reads t x → Says (Spoken (lead_of (setting_count + axis) ++ t)) (shift_by axis false 0 x)
+alone axis t h (Some n) r = pick (Spoken (lead_of (setting_count + axis) ++ t)) (leb 0 n && leb n most_shift) (Some (Shift axis (pos n))) None go (λ e. tt)
   where
     go : (leb 0 n && leb n most_shift) ≡ true → Spoken (lead_of (setting_count + axis) ++ t) (Shift axis (pos n))
     go e = subst (λ (y : List ℕ). Spoken (lead_of (setting_count + axis) ++ y) (Shift axis (pos n))) (sym r.spelt) (plain axis n h (leb-true n 30 (and_second (leb 0 n) (leb n most_shift) e)))
-alone axis t h Not r = tt
+alone axis t h None r = tt
 
 shift_order_lem : (axis : ℕ) (t : List ℕ) → axis < 2 → Says (Spoken (lead_of (setting_count + axis) ++ t)) (shift_order axis t)
 unfolding shift_order
@@ -199,17 +194,17 @@ shift_order_lem axis t h =
 value_order_lem : (k : ℕ) (t : List ℕ) → k < name_count → Says (Spoken (lead_of k ++ t)) (value_order k t)
 unfolding value_order chosen_by
 value_order_lem k t h =
-    pick (Spoken (lead_of k ++ t)) (ltb k 3) _ _ (λ e. level_order_lem k t (ltb-true k 3 e) (level_of t) (level_says t))
-    (λ e. pick (Spoken (lead_of k ++ t)) (ltb k setting_count) _ _ (λ f. choice_order_lem k t (ltb-true k setting_count f) (ltb-false k 3 e) (chosen_by k t) (first_right (length (words_of k)) (λ (v : ℕ). same (word_of k v) t)))
+    pick (Spoken (lead_of k ++ t)) (ltb k 3) _ _ (λ e. level_set k t (ltb-true k 3 e) (level_of t) (level_says t))
+    (λ e. pick (Spoken (lead_of k ++ t)) (ltb k setting_count) _ _ (λ f. choice_set k t (ltb-true k setting_count f) (ltb-false k 3 e) (chosen_by k t) (first_right (length (words_of k)) (λ (v : ℕ). same (word_of k v) t)))
     (λ f.
     let l = ltb-false k setting_count f in
     let q : setting_count + (k - setting_count) ≡ k = omega arith in
     subst (λ (j : ℕ). Says (Spoken (lead_of j ++ t)) (shift_order (k - setting_count) t)) q (shift_order_lem (k - setting_count) t (omega arith))))
 
-set_order_lem : (s : List ℕ) (x : Found) → Right (λ (k : ℕ). begins (lead_of k) s) name_count x → Says (Spoken s) (set_order x s)
-set_order_lem s (At k) r =
+set_order_lem : (s : List ℕ) (x : Option ℕ) → Right (λ (k : ℕ). begins (lead_of k) s) name_count x → Says (Spoken s) (set_order x s)
+set_order_lem s (Some k) r =
     subst (λ (w : List ℕ). Says (Spoken w) (value_order k (drop (length (lead_of k)) s))) (sym (begins_front (lead_of k) s r.passes)) (value_order_lem k (drop (length (lead_of k)) s) r.small)
-set_order_lem s Nothing r = tt
+set_order_lem s None r = tt
 
 read_set_lem : (s : List ℕ) → Says (Spoken s) (read_set s)
 unfolding read_set
@@ -217,9 +212,9 @@ read_set_lem s =
     pick (Spoken s) (same s (ascii "RESET")) _ _ (λ e. subst (λ (w : List ℕ). Spoken w Reset) (sym (same_is s (ascii "RESET") e)) resets)
     (λ _. set_order_lem s (led_by s) (led_right s))
 
-get_order_lem : (s : List ℕ) (x : Found) → Right (λ (k : ℕ). same (name_of k) s) name_count x → Says (Asks (ascii "STATget " ++ s)) (get_order x)
-get_order_lem s (At k) r = subst (λ (w : List ℕ). Asks (ascii "STATget " ++ w) (Get k)) (same_is (name_of k) s r.passes) (stat_get k r.small)
-get_order_lem s Nothing r = tt
+get_order_lem : (s : List ℕ) (x : Option ℕ) → Right (λ (k : ℕ). same (name_of k) s) name_count x → Says (Asks (ascii "STATget " ++ s)) (get_order x)
+get_order_lem s (Some k) r = subst (λ (w : List ℕ). Asks (ascii "STATget " ++ w) (Get k)) (same_is (name_of k) s r.passes) (stat_get k r.small)
+get_order_lem s None r = tt
 
 read_words_lem : (d : List ℕ) → Says (Asks d) (read_words d)
 unfolding read_words read_get named_by
@@ -229,6 +224,6 @@ read_words_lem d =
     (λ _. tt))
 
 -- nothing else is understood, but for such an end
-pub only : (d : List ℕ) (o : Order) → read_data d ≡ Understood o → Asks (trimmed d) o
+pub only : (d : List ℕ) (o : Order) → read_data d ≡ Some o → Asks (trimmed d) o
 unfolding read_data
 only d o e = subst (Says (Asks (trimmed d))) e (read_words_lem (trimmed d))

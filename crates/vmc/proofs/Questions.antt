@@ -4,11 +4,11 @@ use Prim.Native.Nat.{ℕ}
 use mathlib.Core.Path.{◌≡◌, refl}
 use mathlib.Core.Bool.{Bool, true, false}
 use mathlib.Core.List.{List}
+use Rattle.std.specs.Prelude.{Some}
 use Rattle.trimming.specs.Trimming.{trimmed}
 use Rattle.vmc_asks.specs.Asks.{read_data, is_question, asks_status}
 use Rattle.vmc_asks.specs.declared.Order.{Order}
 use Rattle.vmc_asks.specs.declared.Order.TheVariants.{Set, Shift, Reset, Get}
-use Rattle.vmc_asks.specs.declared.Words.TheVariants.{Understood}
 use Rattle.vmc.proofs.Only.{sets, moves, plain, resets, Asks, stat_set, stat_get, only}
 
 -- an order that only asks
@@ -27,6 +27,6 @@ phrase_asks _ _ (stat_set _ _ resets) = refl
 phrase_asks _ _ (stat_get k h) = refl
 
 -- what is understood asks for a status exactly where it is a STATget: no set is taken for a question
-pub question_is : (d : List ℕ) (o : Order) → read_data d ≡ Understood o → asks_status d ≡ asks_only o
+pub question_is : (d : List ℕ) (o : Order) → read_data d ≡ Some o → asks_status d ≡ asks_only o
 unfolding asks_status
 question_is d o e = phrase_asks (trimmed d) o (only d o e)

@@ -9,6 +9,7 @@ use lib.Dec.{T, eqb, leb, eqb→eq}
 use borrow.Author.Tests.{leb-true, ne_eqb}
 use lib.ListN.{get_or}
 use lib.IntN.{ℤ, pos, negsuc}
+use Rattle.std.specs.Prelude.{Option, Some, None}
 use Rattle.laws.specs.Bytes.{ascii, begins}
 use Rattle.laws.specs.Lists.{every_below}
 use Rattle.laws.proofs.Table.{below, sure, and_left, and_right}
@@ -23,21 +24,19 @@ use Rattle.vmc_asks.specs.Asks.{shift_order, value_order, read_set, read_get, re
 use Rattle.vmc_tells.specs.Texts.{value_words, shift_words, set_words, move_words}
 use Rattle.vmc_asks.specs.declared.Order.{Order}
 use Rattle.vmc_asks.specs.declared.Order.TheVariants.{Set, Shift, Reset, Get}
-use Rattle.vmc_asks.specs.declared.Words.{Words}
-use Rattle.vmc_asks.specs.declared.Words.TheVariants.{Understood, NotUnderstood}
 
 -- words that order o as they stand, and end with neither a space nor 00h
 pub record Phrase (t : List ℕ) (o : Order) : Type 0 where
-  pub orders : read_words t ≡ Understood o
+  pub orders : read_words t ≡ Some o
   pub ends_bare_holds : ends_bare t ≡ true
 
 -- nothing is taken off such words
-pub read_back : (t : List ℕ) (o : Order) → Phrase t o → read_data t ≡ Understood o
+pub read_back : (t : List ℕ) (o : Order) → Phrase t o → read_data t ≡ Some o
 unfolding read_data
 read_back t o p = ap read_words (bare_trimmed t p.ends_bare_holds) ∙ p.orders
 
 -- a computed test of words is one of both
-both : (t : List ℕ) (o : Order) (f : Words → Bool) → ((x : Words) → T (f x) → x ≡ Understood o) → T (f (read_words t) && ends_bare t) → Phrase t o
+both : (t : List ℕ) (o : Order) (f : Option Order → Bool) → ((x : Option Order) → T (f x) → x ≡ Some o) → T (f (read_words t) && ends_bare t) → Phrase t o
 both t o f g h = record { orders = g (read_words t) (and_left (f (read_words t)) (ends_bare t) h); ends_bare_holds = sure (ends_bare t) (and_right (f (read_words t)) (ends_bare t) h) }
 
 -- two signed numbers are the same
@@ -54,12 +53,12 @@ same_z_lem (pos a) (negsuc b) t = absurd t
 same_z_lem (negsuc a) (pos b) t = absurd t
 same_z_lem (negsuc a) (negsuc b) t = ap negsuc (eqb→eq a b t)
 
-is_set : ℕ → ℕ → Words → Bool
-is_set k v (Understood (Set j x)) = eqb j k && eqb x v
-is_set k v (Understood (Shift j z)) = false
-is_set k v (Understood Reset) = false
-is_set k v (Understood (Get j)) = false
-is_set k v NotUnderstood = false
+is_set : ℕ → ℕ → Option Order → Bool
+is_set k v (Some (Set j x)) = eqb j k && eqb x v
+is_set k v (Some (Shift j z)) = false
+is_set k v (Some Reset) = false
+is_set k v (Some (Get j)) = false
+is_set k v None = false
 
 sets_back : ℕ → ℕ → Bool
 sets_back k v = is_set k v (read_words (ascii "STATset " ++ set_words k v)) && ends_bare (ascii "STATset " ++ set_words k v)
@@ -67,13 +66,13 @@ sets_back k v = is_set k v (read_words (ascii "STATset " ++ set_words k v)) && e
 all_set_back : ℕ → Bool
 all_set_back k = every_below (get_or tops k 0 + 1) (sets_back k)
 
-is_set_lem : (k v : ℕ) (o : Words) → T (is_set k v o) → o ≡ Understood (Set k v)
+is_set_lem : (k v : ℕ) (o : Option Order) → T (is_set k v o) → o ≡ Some (Set k v)
 unfolding is_set
-is_set_lem k v (Understood (Set j x)) t = ap (λ (y : ℕ). Understood (Set y x)) (eqb→eq j k (and_left (eqb j k) (eqb x v) t)) ∙ ap (λ (y : ℕ). Understood (Set k y)) (eqb→eq x v (and_right (eqb j k) (eqb x v) t))
-is_set_lem k v (Understood (Shift j z)) t = absurd t
-is_set_lem k v (Understood Reset) t = absurd t
-is_set_lem k v (Understood (Get j)) t = absurd t
-is_set_lem k v NotUnderstood t = absurd t
+is_set_lem k v (Some (Set j x)) t = ap (λ (y : ℕ). Some (Set y x)) (eqb→eq j k (and_left (eqb j k) (eqb x v) t)) ∙ ap (λ (y : ℕ). Some (Set k y)) (eqb→eq x v (and_right (eqb j k) (eqb x v) t))
+is_set_lem k v (Some (Shift j z)) t = absurd t
+is_set_lem k v (Some Reset) t = absurd t
+is_set_lem k v (Some (Get j)) t = absurd t
+is_set_lem k v None t = absurd t
 
 -- the words that set a value are the order to set it
 pub set_back : (k v : ℕ) → k < setting_count → v ≤ get_or tops k 0 → Phrase (ascii "STATset " ++ set_words k v) (Set k v)
@@ -81,20 +80,20 @@ unfolding is_set sets_back all_set_back read_words ends_bare read_set value_orde
 set_back k v h l = both _ (Set k v) (is_set k v) (is_set_lem k v) (below (get_or tops k 0 + 1) (sets_back k) (below setting_count all_set_back tt k h) v (omega arith))
 
 -- a shift, as its sign and its size less one below 0
-is_shift : ℕ → ℤ → Words → Bool
-is_shift axis z (Understood (Set j x)) = false
-is_shift axis z (Understood (Shift j y)) = eqb j axis && same_z y z
-is_shift axis z (Understood Reset) = false
-is_shift axis z (Understood (Get j)) = false
-is_shift axis z NotUnderstood = false
+is_shift : ℕ → ℤ → Option Order → Bool
+is_shift axis z (Some (Set j x)) = false
+is_shift axis z (Some (Shift j y)) = eqb j axis && same_z y z
+is_shift axis z (Some Reset) = false
+is_shift axis z (Some (Get j)) = false
+is_shift axis z None = false
 
-is_shift_lem : (axis : ℕ) (z : ℤ) (o : Words) → T (is_shift axis z o) → o ≡ Understood (Shift axis z)
+is_shift_lem : (axis : ℕ) (z : ℤ) (o : Option Order) → T (is_shift axis z o) → o ≡ Some (Shift axis z)
 unfolding is_shift
-is_shift_lem axis z (Understood (Set j x)) t = absurd t
-is_shift_lem axis z (Understood (Shift j y)) t = ap (λ (n : ℕ). Understood (Shift n y)) (eqb→eq j axis (and_left (eqb j axis) (same_z y z) t)) ∙ ap (λ (n : ℤ). Understood (Shift axis n)) (same_z_lem y z (and_right (eqb j axis) (same_z y z) t))
-is_shift_lem axis z (Understood Reset) t = absurd t
-is_shift_lem axis z (Understood (Get j)) t = absurd t
-is_shift_lem axis z NotUnderstood t = absurd t
+is_shift_lem axis z (Some (Set j x)) t = absurd t
+is_shift_lem axis z (Some (Shift j y)) t = ap (λ (n : ℕ). Some (Shift n y)) (eqb→eq j axis (and_left (eqb j axis) (same_z y z) t)) ∙ ap (λ (n : ℤ). Some (Shift axis n)) (same_z_lem y z (and_right (eqb j axis) (same_z y z) t))
+is_shift_lem axis z (Some Reset) t = absurd t
+is_shift_lem axis z (Some (Get j)) t = absurd t
+is_shift_lem axis z None t = absurd t
 
 moves_back : (ℕ → ℤ) → ℕ → ℕ → Bool
 moves_back f axis n = is_shift axis (f n) (read_words (ascii "STATset " ++ move_words (setting_count + axis) (f n))) && ends_bare (ascii "STATset " ++ move_words (setting_count + axis) (f n))
@@ -124,20 +123,20 @@ unfolding read_words ends_bare read_set
 reset_back = record { orders = refl; ends_bare_holds = refl }
 
 -- each name asks for its value
-is_get : ℕ → Words → Bool
-is_get k (Understood (Set j x)) = false
-is_get k (Understood (Shift j z)) = false
-is_get k (Understood Reset) = false
-is_get k (Understood (Get j)) = eqb j k
-is_get k NotUnderstood = false
+is_get : ℕ → Option Order → Bool
+is_get k (Some (Set j x)) = false
+is_get k (Some (Shift j z)) = false
+is_get k (Some Reset) = false
+is_get k (Some (Get j)) = eqb j k
+is_get k None = false
 
-is_get_lem : (k : ℕ) (o : Words) → T (is_get k o) → o ≡ Understood (Get k)
+is_get_lem : (k : ℕ) (o : Option Order) → T (is_get k o) → o ≡ Some (Get k)
 unfolding is_get
-is_get_lem k (Understood (Set j x)) t = absurd t
-is_get_lem k (Understood (Shift j z)) t = absurd t
-is_get_lem k (Understood Reset) t = absurd t
-is_get_lem k (Understood (Get j)) t = ap (λ (n : ℕ). Understood (Get n)) (eqb→eq j k t)
-is_get_lem k NotUnderstood t = absurd t
+is_get_lem k (Some (Set j x)) t = absurd t
+is_get_lem k (Some (Shift j z)) t = absurd t
+is_get_lem k (Some Reset) t = absurd t
+is_get_lem k (Some (Get j)) t = ap (λ (n : ℕ). Some (Get n)) (eqb→eq j k t)
+is_get_lem k None t = absurd t
 
 asks_back : ℕ → Bool
 asks_back k = is_get k (read_words (ascii "STATget " ++ name_of k)) && ends_bare (ascii "STATget " ++ name_of k)

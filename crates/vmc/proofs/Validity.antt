@@ -6,6 +6,7 @@ use mathlib.Core.List.{List}
 use borrow.Author.Tests.{le-leb}
 use lib.IntN.{pos}
 use lib.ListN.{get_or}
+use Rattle.std.specs.Prelude.{Some}
 use Rattle.laws.proofs.Lists.{every_set}
 use Rattle.settings.specs.Table.{most_shift, name_count, setting_count, tops}
 use Rattle.panels.specs.Valid.{ok_shift, ok_w}
@@ -16,7 +17,6 @@ use Rattle.trimming.specs.Trimming.{trimmed}
 use Rattle.vmc_asks.specs.Asks.{read_data}
 use Rattle.vmc_asks.specs.declared.Order.{Order}
 use Rattle.vmc_asks.specs.declared.Order.TheVariants.{Set, Shift, Reset, Get}
-use Rattle.vmc_asks.specs.declared.Words.TheVariants.{Understood}
 use Rattle.vmc.proofs.Flip.{assigned_within}
 use Rattle.vmc.proofs.Only.{sets, moves, plain, resets, Asks, stat_set, stat_get, only}
 
@@ -39,7 +39,7 @@ asks_fits _ _ (stat_set _ _ resets) = tt
 asks_fits _ _ (stat_get k h) = h
 
 -- an order that was understood names one of the settings, with a value in its range
-pub understood_fits : (d : List ℕ) (o : Order) → read_data d ≡ Understood o → Fits o
+pub understood_fits : (d : List ℕ) (o : Order) → read_data d ≡ Some o → Fits o
 understood_fits d o e = asks_fits (trimmed d) o (only d o e)
 
 pub carried_fits : (o : Order) (w : WRecord) → Fits o → InRange w → InRange (carried o w)
@@ -50,5 +50,5 @@ carried_fits Reset w f r = record { settings_ok = r.settings_ok; shifts_ok = ref
 carried_fits (Get k) w f r = r
 
 -- a valid record stays valid, whatever was understood
-pub carried_valid : (d : List ℕ) (o : Order) (w : WRecord) → read_data d ≡ Understood o → ok_w w ≡ true → ok_w (carried o w) ≡ true
+pub carried_valid : (d : List ℕ) (o : Order) (w : WRecord) → read_data d ≡ Some o → ok_w w ≡ true → ok_w (carried o w) ≡ true
 carried_valid d o w e v = whole (carried o w) (carried_fits o w (understood_fits d o e) (parts w v))

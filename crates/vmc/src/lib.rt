@@ -35,10 +35,7 @@ fn flipped_to(flip: u8, v: u8, in_force: u8) -> u8
 fn flip_says(flip: u8, in_force: u8) -> u8
     ensures { result ≡ flip_says flip in_force }
 {
-    if in_force == flip {
-        return 1;
-    }
-    0
+    u8::from(in_force == flip)
 }
 
 // The settings with name k at a value.
@@ -48,11 +45,8 @@ fn assign(settings: [u8; 19], k: usize, v: u8) -> [u8; 19]
     let mut s = settings;
     if k < FLIP {
         s[k] = v;
-        return s;
-    }
-    if k < SETTING_COUNT {
+    } else if k < SETTING_COUNT {
         s[FLIP] = flipped_to(flip_of(k), v, settings[FLIP]);
-        return s;
     }
     s
 }
@@ -111,15 +105,12 @@ fn changed(settings: [u8; 19], shifts: [i8; 2], o: Order) -> Changeable
 pub fn obey(w: WRecord, o: Order) -> WRecord
     ensures { result ≡ carried o w }
 {
-    let settings = w.settings;
-    let shifts = w.shifts;
-    let n = changed(settings, shifts, o);
-    let next_settings = n.settings;
-    let next_shifts = n.shifts;
-    let mut x = w;
-    x.settings = next_settings;
-    x.shifts = next_shifts;
-    x
+    let Changeable { settings, shifts } = changed(w.settings, w.shifts, o);
+    WRecord {
+        settings,
+        shifts,
+        ..w
+    }
 }
 
 // The present value behind name k.
@@ -127,15 +118,10 @@ fn present(w: WRecord, k: usize) -> Says
     ensures { result ≡ says_of (Order.Get k) w }
 {
     if k < SETTING_COUNT {
-        let settings = w.settings;
-        return Says::Value(k, value_at(settings, k));
+        return Says::Value(k, value_at(w.settings, k));
     }
-    let axis = k - SETTING_COUNT;
-    if 2 <= axis {
-        return Says::Offset(k, 0);
-    }
-    let shifts = w.shifts;
-    Says::Offset(k, shifts[axis])
+    let shift = w.shifts.get(k - SETTING_COUNT).copied();
+    Says::Offset(k, shift.unwrap_or(0))
 }
 
 // What an order is told.
@@ -143,9 +129,7 @@ pub fn tell(w: WRecord, o: Order) -> Says
     ensures { result ≡ says_of o w }
 {
     match o {
-        Order::Set(_, _) => Says::Bare,
-        Order::Shift(_, _) => Says::Bare,
-        Order::Reset => Says::Bare,
         Order::Get(k) => present(w, k),
+        _ => Says::Bare,
     }
 }

@@ -17,5 +17,5 @@ changes_alone (Get k) w = refl
 pub returns : goal.returns
 returns c =
     let a = c.args in
-    let e = c.changed-n.ensures in
+    let e = c.changed.ensures in
     rw (e.0, e.1) (changes_alone a.o a.w)
