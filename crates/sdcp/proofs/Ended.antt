@@ -8,6 +8,7 @@ use native.Mathlib.Omega.{arith}
 use lib.ListN.{length, get_or, take}
 use lib.Seq.{get_or-take, take-take}
 use borrow.Author.Tests.{le-ltb}
+use Rattle.std.specs.Prelude.{Ok, Err}
 use Rattle.laws.specs.Bytes.{same, part}
 use Rattle.laws.proofs.Lists.{part_from}
 use Rattle.laws.proofs.Texts.{begins_take}
@@ -15,21 +16,19 @@ use Rattle.panels.specs.declared.WRecord.{WRecord}
 use Rattle.trimming.proofs.Trimmed.{Ended, ends_bare}
 use Rattle.vmc_asks.specs.Asks.{asks_status}
 use Rattle.vmc_asks.proofs.Ended.{read_ended, question_ended}
-use Rattle.terms.specs.declared.Envelope.TheVariants.{Good}
-use Rattle.sdcp_asks.specs.Asks.{front, is_ours, envelope_of, data_of, heard_of, unless_status, cast_of}
-use Rattle.sdcp_asks.specs.declared.Heard.{Heard}
-use Rattle.sdcp_asks.specs.declared.Heard.TheVariants.{Refused, Broken, NotUnderstood, Understood}
+use Rattle.sdcp_asks.specs.Asks.{front, is_ours, envelope_of, data_of, heard_of, unless_status, cast_of, Heard}
+use Rattle.sdcp_asks.specs.declared.Fault.TheVariants.{Refused, Broken, NotUnderstood}
 use Rattle.sdcp.specs.Replies.{packet_of, bytes_of, turned, turn_of, cast_turn_of}
 use Rattle.sdcp.specs.declared.Reply.{Reply}
-use Rattle.sdcp.specs.declared.Reply.TheVariants.{Silent, Ng, Ok}
+use Rattle.sdcp.specs.declared.Reply.TheVariants.{Silent, Ng, Ok as OkWith}
 
 -- q is the packet p with an end behind its string: the same bytes before the data's length, and both in a good envelope
 pub record EndedAs (p q : List ℕ) : Type 0 where
   pub front_same : take 11 q ≡ take 11 p
   pub long : 13 ≤ length p
   pub ended_long : 13 ≤ length q
-  pub sound : envelope_of p ≡ Good
-  pub ended_sound : envelope_of q ≡ Good
+  pub sound : envelope_of p ≡ Ok tt
+  pub ended_sound : envelope_of q ≡ Ok tt
   pub ends_bare_holds : ends_bare (data_of p) ≡ true
   pub ended : Ended (data_of p) (data_of q)
 
@@ -62,14 +61,14 @@ module _ (p q : List ℕ) (e : EndedAs p q) where
   unfolding bytes_of
   bytes_ended Silent = refl
   bytes_ended Ng = packet_ended _ _
-  bytes_ended (Ok t) = packet_ended _ _
+  bytes_ended (OkWith t) = packet_ended _ _
 
   heard_so : (x : Heard) (w : WRecord) → turned q x w ≡ turned p x w
   unfolding turned
-  heard_so (Refused a) w = refl
-  heard_so (Broken x) w = rw (bytes_ended Ng)
-  heard_so NotUnderstood w = rw (bytes_ended _)
-  heard_so (Understood o) w = rw (bytes_ended _)
+  heard_so (Err (Refused a)) w = refl
+  heard_so (Err (Broken x)) w = rw (bytes_ended Ng)
+  heard_so (Err NotUnderstood) w = rw (bytes_ended _)
+  heard_so (Ok o) w = rw (bytes_ended _)
 
   -- what a panel does with it: record, answer and reply
   pub turn_ended : (w : WRecord) → turn_of q w ≡ turn_of p w

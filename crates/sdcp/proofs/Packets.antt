@@ -5,19 +5,18 @@ use mathlib.Core.List.{List, [], ◌∷◌, ◌++◌, append_assoc}
 use native.Mathlib.Omega.{arith}
 use lib.ListN.{length, get_or, drop}
 use lib.Seq.{drop-append_seam}
+use Rattle.std.specs.Prelude.{Option, Some, None, Ok, Err}
 use Rattle.laws.specs.Bytes.{part, laid, sent, Sent}
 use Rattle.laws.specs.Numbers.{in_bytes}
 use Rattle.laws.proofs.Areas.{laid_first, laid_more, over_front}
 use Rattle.laws.proofs.Lists.{part_from, part_length}
 use Rattle.laws.proofs.Numbers.{length_in_bytes}
+use Rattle.vmc_asks.specs.declared.Order.{Order}
 use Rattle.vmc_asks.specs.Asks.{read_data}
-use Rattle.vmc_asks.specs.declared.Words.{Words}
-use Rattle.vmc_asks.specs.declared.Words.TheVariants.{Understood as UnderstoodWords, NotUnderstood as NotUnderstoodWords}
-use Rattle.sdcp_asks.specs.Asks.{in_words, data_of, heard_of}
+use Rattle.sdcp_asks.specs.Asks.{in_words, data_of, heard_of, Heard}
 use Rattle.sdcp.specs.Replies.{packet_of}
-use Rattle.sdcp_asks.specs.declared.Heard.{Heard}
 use Rattle.sdcp_asks.proofs.Envelopes.{by_rungs}
-use Rattle.sdcp_asks.specs.declared.Heard.TheVariants.{Refused, Broken, NotUnderstood, Understood}
+use Rattle.sdcp_asks.specs.declared.Fault.TheVariants.{Refused, Broken, NotUnderstood}
 
 two : (l : List ℕ) → length l ≡ 2 → get_or l 0 0 ∷ get_or l 1 0 ∷ [] ≡ l
 two [] e = absurd (omega arith)
@@ -59,17 +58,17 @@ sends m code size body area x y z h k r e p q s =
 
 -- what was not refused has its thirteen bytes
 abbrev pub Long : List ℕ → Heard → Type 0
-Long m (Refused a) = Unit {0}
-Long m (Broken p) = 13 ≤ length m
-Long m NotUnderstood = 13 ≤ length m
-Long m (Understood o) = 13 ≤ length m
+Long m (Err (Refused a)) = Unit {0}
+Long m (Err (Broken p)) = 13 ≤ length m
+Long m (Err NotUnderstood) = 13 ≤ length m
+Long m (Ok o) = 13 ≤ length m
 
 pub heard_long : (m : List ℕ) → Long m (heard_of m)
 heard_long m = by_rungs (Long m) m tt tt (λ h p e. h) (words (read_data (data_of m)))
   where
-    words : (x : Words) → 13 ≤ length m → Long m (in_words x)
-    words (UnderstoodWords o) h = h
-    words NotUnderstoodWords h = h
+    words : (x : Option Order) → 13 ≤ length m → Long m (in_words x)
+    words (Some o) h = h
+    words None h = h
 
 -- "The data area, from byte 13 to its end, is read as it stands."
 pub data_stands : (head words : List ℕ) → length head ≡ 13 → data_of (head ++ words) ≡ words

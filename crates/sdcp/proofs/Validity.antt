@@ -3,17 +3,16 @@ use mathlib.Core.Path.{◌≡◌, refl}
 use mathlib.Core.Bool.{true}
 use mathlib.Core.List.{List}
 use Prim.Native.Nat.{ℕ}
+use Rattle.std.specs.Prelude.{Option, Some, None}
 use Rattle.turns.specs.Turns.{Turn, taken}
 use Rattle.turns.proofs.Turns.{either}
 use Rattle.panels.specs.Valid.{ok_w}
 use Rattle.panels.specs.declared.WRecord.{WRecord}
+use Rattle.vmc_asks.specs.declared.Order.{Order}
 use Rattle.vmc_asks.specs.Asks.{read_data}
-use Rattle.vmc_asks.specs.declared.Words.{Words}
-use Rattle.vmc_asks.specs.declared.Words.TheVariants.{Understood as UnderstoodWords, NotUnderstood as NotUnderstoodWords}
 use Rattle.vmc.proofs.Validity.{carried_valid}
-use Rattle.sdcp_asks.specs.Asks.{data_of, in_words}
+use Rattle.sdcp_asks.specs.Asks.{data_of, in_words, Heard}
 use Rattle.sdcp.specs.Replies.{turned, turn_of}
-use Rattle.sdcp_asks.specs.declared.Heard.{Heard}
 -- ---- a valid record stays valid
 use Rattle.sdcp_asks.proofs.Envelopes.{by_rungs}
 
@@ -21,10 +20,10 @@ use Rattle.sdcp_asks.proofs.Envelopes.{by_rungs}
 abbrev Keeps : List ℕ → WRecord → Heard → Type 0
 Keeps m w h = ok_w w ≡ true → ok_w (turned m h w).after ≡ true
 
-words_keep : (m d : List ℕ) (w : WRecord) (x : Words) → read_data d ≡ x → Keeps m w (in_words x)
+words_keep : (m d : List ℕ) (w : WRecord) (x : Option Order) → read_data d ≡ x → Keeps m w (in_words x)
 unfolding turned
-words_keep m d w (UnderstoodWords o) e v = carried_valid d o w e v
-words_keep m d w NotUnderstoodWords e v = v
+words_keep m d w (Some o) e v = carried_valid d o w e v
+words_keep m d w None e v = v
 
 pub turned_valid : (m : List ℕ) (w : WRecord) → ok_w w ≡ true → ok_w (turn_of m w).after ≡ true
 unfolding turned

@@ -8,8 +8,8 @@ ghost use Rattle.sdcp.specs.Replies.{packet_of, bytes_of, turn_of};
 
 use octets::{bytes2, lay};
 use panels::WRecord;
-use sdcp_asks::{Heard, hear};
-use terms::Answer;
+use sdcp_asks::{Fault, hear};
+use terms::{Answer, Outcome};
 use vmc::{obey, tell};
 use vmc_tells::{Says, spell};
 
@@ -21,22 +21,14 @@ pub enum Reply {
     Ok(Says),
 }
 
-// What a packet did: the record after it, the answer, and the reply's length.
-#[derive(Clone, Copy)]
-pub struct Outcome {
-    pub after: WRecord,
-    pub answer: Answer,
-    pub len: usize,
-}
-
 // A reply's packet at the front of the area: the request's first eight bytes and its item come back.
 fn put_packet(m: &[u8], code: u8, body: &[u8], area: &mut [u8]) -> usize
     requires { (13 ≤ length m.now) × (length body.now ≤ 20) × (512 ≤ length area.old) }
     ensures { Sent (packet_of m.now code body.now) result area.old area.new }
 {
     let n = body.len();
-    let size = bytes2(n as u16);
-    let head = [code, m[9], m[10], size[0], size[1]];
+    let [high, low] = bytes2(n as u16);
+    let head = [code, m[9], m[10], high, low];
     lay(area, 0, &m[0..8]);
     lay(area, 8, &head);
     lay(area, 13, body);
@@ -48,55 +40,32 @@ fn put_ok(m: &[u8], told: Says, area: &mut [u8]) -> usize
     requires { (13 ≤ length m.now) × (512 ≤ length area.old) }
     ensures { Sent (bytes_of m.now (Reply.Ok told)) result area.old area.new }
 {
-    let text = spell(told);
-    let bytes = text.bytes;
-    let n = text.len;
-    put_packet(m, 1, &bytes[..n], area)
+    put_packet(m, 1, spell(told).as_slice(), area)
 }
 
 // A packet for a W panel, by TCP.
-pub fn take_packet(w: WRecord, m: &[u8], area: &mut [u8]) -> Outcome
+pub fn take_packet(w: WRecord, m: &[u8], area: &mut [u8]) -> Outcome<WRecord>
     ensures { Takes (turn_of m.now) w area.old result.after result.answer result.len area.new }
 {
     if area.len() < 512 {
-        return Outcome {
-            after: w,
-            answer: Answer::AreaTooSmall,
-            len: 0,
-        };
+        return Outcome::refused(w, Answer::AreaTooSmall);
     }
-    let ask = hear(m);
-    match ask {
-        Heard::Refused(answer) => Outcome {
+    match hear(m) {
+        Err(Fault::Refused(answer)) => Outcome::refused(w, answer),
+        Err(Fault::Broken(part)) => Outcome {
             after: w,
-            answer,
-            len: 0,
+            answer: Answer::PartWrong(part),
+            len: put_packet(m, 0, b"\xF0\x50", area),
         },
-        Heard::Broken(part) => {
-            let len = put_packet(m, 0, b"\xF0\x50", area);
-            Outcome {
-                after: w,
-                answer: Answer::PartWrong(part),
-                len,
-            }
-        }
-        Heard::NotUnderstood => {
-            let len = put_ok(m, Says::Bare, area);
-            Outcome {
-                after: w,
-                answer: Answer::NotUnderstood,
-                len,
-            }
-        }
-        Heard::Understood(o) => {
-            let next = obey(w, o);
-            let told = tell(w, o);
-            let len = put_ok(m, told, area);
-            Outcome {
-                after: next,
-                answer: Answer::Done,
-                len,
-            }
-        }
+        Err(Fault::NotUnderstood) => Outcome {
+            after: w,
+            answer: Answer::NotUnderstood,
+            len: put_ok(m, Says::Bare, area),
+        },
+        Ok(o) => Outcome {
+            after: obey(w, o),
+            answer: Answer::Done,
+            len: put_ok(m, tell(w, o), area),
+        },
     }
 }
