@@ -2,9 +2,8 @@
 #![tactic(auto)]
 
 ghost use Rattle.std.specs.Prelude.{◌≡◌, ◌≤◌, length};
-ghost use Rattle.laws.specs.Lists.{listed};
-ghost use Rattle.panels.specs.Records.{connectors, presets};
-ghost use Rattle.rs232c_asks.specs.Asks.{is_foreign, envelope_of, config_command, select_command, levels_command, sense_command, remote_command, command_of, order_of, heard_of};
+ghost use Rattle.rs232c_asks.specs.Asks.{is_foreign, envelope_of, command_of, order_of, heard_of};
+ghost use Rattle.rs232c_asks.specs.Asks.{config_command, select_command, levels_command, sense_command, remote_command};
 ghost use Rattle.rs232c_asks.specs.Commands.{connector_good, preset_good, config_good, select_good};
 
 use octets::ones_of;

@@ -75,3 +75,8 @@ module _ (marks byte : ℕ) (i : Inputs) (marked : marks % 2 ≡ 1) where
   pub used_unlisted : length i.on ≡ 10 → placed (byte % 16) ≡ None → used_after marks byte i ≡ i.used
   unfolding used_after
   used_unlisted l p = rw (marked, behind i.on (byte % 16) l p)
+
+-- for `used_after`, and for `on_after`
+pub ruleset in_use = (used_on, used_off, used_unlisted)
+
+pub ruleset placing = (found, none_set, none_off)

@@ -16,7 +16,7 @@ fn place_of(code: u8) -> Option<usize>
 }
 
 // 21h: the connector in use afterwards.
-#[tactic(auto, using(crate::proofs::Places::used_on, crate::proofs::Places::used_off, crate::proofs::Places::used_unlisted), unfolding(crate::specs::Inputs::used_after))]
+#[tactic(auto, using(crate::proofs::Places::in_use), unfolding(crate::specs::Inputs::used_after))]
 fn used_after(marks: u8, byte: u8, i: Inputs) -> u8
     ensures { result ≡ used_after marks byte i }
 {
@@ -53,23 +53,20 @@ fn turned_off(on: [u8; 10], place: usize) -> [u8; 10]
 }
 
 // 22h: which connectors are ON afterwards.
-#[tactic(auto, using(crate::proofs::Places::found, crate::proofs::Places::none_set, crate::proofs::Places::none_off), unfolding(crate::specs::Inputs::on_after))]
+#[tactic(auto, using(crate::proofs::Places::placing), unfolding(crate::specs::Inputs::on_after))]
 fn on_after(byte: u8, on: [u8; 10]) -> [u8; 10]
     ensures { result ≡ on_after byte on }
 {
-    let act = byte / 16 % 4;
-    if act != 1 && act != 2 {
-        return [1; 10];
+    match (byte / 16 % 4, place_of(byte % 16)) {
+        (1, Some(place)) => turned_off(on, place),
+        (2, Some(place)) => {
+            let mut next = on;
+            next[place] = 1;
+            next
+        }
+        (1 | 2, None) => on,
+        _ => [1; 10],
     }
-    let Some(place) = place_of(byte % 16) else {
-        return on;
-    };
-    if act == 1 {
-        return turned_off(on, place);
-    }
-    let mut next = on;
-    next[place] = 1;
-    next
 }
 
 // 21h carried out.
