@@ -1,7 +1,6 @@
 // The white balance in the line of a panel's record (docs/SCRIPTS.md, `show`).
 #![tactic(auto)]
 
-ghost use Rattle.std.specs.Prelude.{[], ◌∷◌, get_or, ◌≡◌};
 ghost use Rattle.script_text.specs.Puts.{Puts};
 ghost use Rattle.script_balance.specs.Balance.{gains_text, bias_text, biases_text, balance_text};
 
@@ -9,18 +8,11 @@ use panels::Balance;
 use script_forms::put_numbers;
 use script_text::{put, put_signed};
 
-// The gains as numbers of a form.
-fn numbers_of(g: [u16; 3]) -> [u32; 3]
-    ensures { result ≡ get_or g 0 0 ∷ get_or g 1 0 ∷ get_or g 2 0 ∷ [] }
+fn put_gains(out: &mut [u8], at: usize, gains: [u16; 3]) -> usize
+    ensures { Puts (gains_text gains) out.old at out.new result }
 {
-    [g[0] as u32, g[1] as u32, g[2] as u32]
-}
-
-fn put_gains(out: &mut [u8], at: usize, g: [u16; 3]) -> usize
-    ensures { Puts (gains_text g) out.old at out.new result }
-{
-    let numbers = numbers_of(g);
-    put_numbers(out, at, b" GAIN # # #", &numbers)
+    let [r, g, b] = gains;
+    put_numbers(out, at, b" GAIN # # #", &[r as u32, g as u32, b as u32])
 }
 
 // A bias behind a word.
@@ -42,8 +34,6 @@ fn put_biases(out: &mut [u8], at: usize, z: [i16; 3]) -> usize
 pub fn put_balance(out: &mut [u8], at: usize, b: Balance) -> usize
     ensures { Puts (balance_text b) out.old at out.new result }
 {
-    let gains = b.gains;
-    let biases = b.biases;
-    let to = put_gains(out, at, gains);
-    put_biases(out, to, biases)
+    let to = put_gains(out, at, b.gains);
+    put_biases(out, to, b.biases)
 }

@@ -1,7 +1,7 @@
 // Parts of the line of a panel's record: the connectors, the white balance, and the line of a K panel (docs/SCRIPTS.md, `show`).
 #![tactic(auto)]
 
-ghost use Rattle.std.specs.Prelude.{cond, [], ◌∷◌, eqb, ◌≡◌};
+ghost use Rattle.std.specs.Prelude.{cond, [], eqb};
 ghost use Rattle.laws.specs.Bytes.{ascii};
 ghost use Rattle.panels.specs.Records.{connectors};
 ghost use Rattle.script_text.specs.Puts.{Puts};
@@ -26,12 +26,9 @@ fn put_code(out: &mut [u8], at: usize, on: u8, code: u8) -> usize
 fn put_on(out: &mut [u8], at: usize, on: [u8; 10]) -> usize
     ensures { Puts (on_text connectors on) out.old at out.new result }
 {
-    let codes = CONNECTORS;
     let mut to = at;
-    let mut i = 0;
-    while i < 10 {
-        to = put_code(out, to, on[i], codes[i]);
-        i += 1;
+    for (i, code) in CONNECTORS.iter().enumerate() {
+        to = put_code(out, to, on[i], *code);
     }
     to
 }
@@ -40,43 +37,35 @@ fn put_on(out: &mut [u8], at: usize, on: [u8; 10]) -> usize
 pub fn put_inputs(out: &mut [u8], at: usize, i: Inputs) -> usize
     ensures { Puts (inputs_text i) out.old at out.new result }
 {
-    let on = i.on;
     let a = put_number_text(out, at, b" INPUT ", i.used as u32);
     let b = put(out, a, b" ON");
-    let c = put_on(out, b, on);
+    let c = put_on(out, b, i.on);
     put_number_text(out, c, b" PRESET ", i.preset as u32)
 }
 
+#[tactic(auto, using(std::proofs::lemmas::Bool::Decides::nat_tests), unfolding(crate::specs::Parts::scene_text))]
 fn put_scene(out: &mut [u8], at: usize, v: u8) -> usize
     ensures { Puts (scene_text v) out.old at out.new result }
 {
-    if v == 0 {
-        return put(out, at, b" SCEN auto");
+    match v {
+        0 => put(out, at, b" SCEN auto"),
+        1 => put(out, at, b" SCEN auto24pSync"),
+        _ => put(out, at, b" SCEN general"),
     }
-    if v == 1 {
-        return put(out, at, b" SCEN auto24pSync");
-    }
-    put(out, at, b" SCEN general")
 }
 
-// The numbers of the line of a K panel, in its order.
-fn k_numbers(k: KRecord) -> [u32; 6]
-    ensures { result ≡ k.power ∷ k.kind ∷ k.port ∷ k.volume ∷ k.amut ∷ k.pmut ∷ [] }
+// The line of a K panel.
+pub fn put_k(out: &mut [u8], at: usize, k: KRecord) -> usize
+    ensures { Puts (k_text k) out.old at out.new result }
 {
-    [
+    let numbers = [
         k.power as u32,
         k.kind as u32,
         k.port as u32,
         k.volume as u32,
         k.amut as u32,
         k.pmut as u32,
-    ]
-}
-
-pub fn put_k(out: &mut [u8], at: usize, k: KRecord) -> usize
-    ensures { Puts (k_text k) out.old at out.new result }
-{
-    let numbers = k_numbers(k);
+    ];
     let to = put_numbers(out, at, b"K POWR # INPT # # VOLU # AMUT # PMUT #", &numbers);
     put_scene(out, to, k.scene)
 }

@@ -49,19 +49,15 @@ fn put_setting(out: &mut [u8], at: usize, w: WRecord, k: usize) -> usize
 {
     let to = put(out, at, b" ");
     let text = spell(tell(w, Order::Get(k)));
-    let bytes = text.bytes;
-    let n = text.len;
-    put(out, to, &bytes[..n])
+    put(out, to, &text.bytes[..text.len])
 }
 
 fn put_settings(out: &mut [u8], at: usize, w: WRecord) -> usize
     ensures { Puts (settings_text w shown_names) out.old at out.new result }
 {
     let mut to = at;
-    let mut i = 0;
-    while i < 23 {
-        to = put_setting(out, to, w, SHOWN[i]);
-        i += 1;
+    for k in &SHOWN {
+        to = put_setting(out, to, w, *k);
     }
     to
 }
@@ -69,12 +65,10 @@ fn put_settings(out: &mut [u8], at: usize, w: WRecord) -> usize
 fn put_w(out: &mut [u8], at: usize, group: u8, unit: u8, w: WRecord) -> usize
     ensures { Puts (w_text group unit w) out.old at out.new result }
 {
-    let inputs = w.inputs;
-    let balance = w.balance;
     let a = put_numbers(out, at, b"W # #", &[group as u32, unit as u32]);
     let b = put_settings(out, a, w);
-    let c = put_inputs(out, b, inputs);
-    put_balance(out, c, balance)
+    let c = put_inputs(out, b, w.inputs);
+    put_balance(out, c, w.balance)
 }
 
 // The line of a panel's record.
@@ -82,9 +76,7 @@ pub fn put_panel(out: &mut [u8], at: usize, p: Panel) -> usize
     ensures { Puts (panel_text p) out.old at out.new result }
 {
     if p.family == b'W' {
-        let w = p.w;
-        return put_w(out, at, p.group.0, p.unit.0, w);
+        return put_w(out, at, p.group.0, p.unit.0, p.w);
     }
-    let k = p.k;
-    put_k(out, at, k)
+    put_k(out, at, p.k)
 }

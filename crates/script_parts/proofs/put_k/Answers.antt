@@ -1,10 +1,9 @@
 -- `put_k` puts its parts one behind the other.
 use mathlib.Core.List.{[], ◌++◌, ◌∷◌, append_assoc}
-use mathlib.Core.Path.{◌∙◌, ◌≡◌, ap, refl}
+use mathlib.Core.Path.{◌∙◌, ◌≡◌, refl}
 use Rattle.laws.specs.Bytes.{ascii}
 use Rattle.panels.specs.declared.KRecord.{KRecord}
 use Rattle.script_text.specs.Texts.{number_text}
-use Rattle.script_forms.specs.Forms.{numbers_text}
 use Rattle.script_forms.proofs.Forms.{forms, spoken}
 use Rattle.script_text.proofs.Puts.{puts_as, puts_then}
 use Rattle.script_parts.specs.Parts.{input_text, k_text, mutes_text}
@@ -18,5 +17,4 @@ parts k = simp append_assoc
 pub returns : goal.returns
 unfolding k_text
 returns c =
-    let e = ap (numbers_text (ascii "K POWR # INPT # # VOLU # AMUT # PMUT #")) c.k_numbers-numbers.ensures in
-    puts_then (puts_as (e ∙ forms [] (ascii "K POWR " ∷ ascii " INPT " ∷ ascii " " ∷ ascii " VOLU " ∷ ascii " AMUT " ∷ ascii " PMUT " ∷ []) _ refl refl ∙ parts c.args.k) c.put_numbers-to.ensures) c.put_scene.ensures
+    puts_then (puts_as (forms [] (ascii "K POWR " ∷ ascii " INPT " ∷ ascii " " ∷ ascii " VOLU " ∷ ascii " AMUT " ∷ ascii " PMUT " ∷ []) _ refl refl ∙ parts c.args.k) c.put_numbers-to.ensures) c.put_scene.ensures

@@ -11,20 +11,14 @@ use Rattle.script_show.specs.Shown.{shown_names, settings_text}
 use Rattle.script_show.proofs.Lines.{settings_from, settings_behind}
 use Rattle.script_show.proofs.put_settings.Goals as goal
 
-pub loop-i-init : goal.loop-i-init
-loop-i-init c =
-    let a = c.args in
-    (search rules, under_first (settings_text a.w shown_names) a.out.now a.at)
+pub loop-k-init : goal.loop-k-init
+loop-k-init c = under_first (settings_text c.args.w shown_names) c.args.out.now c.args.at
 
-pub loop-i-preserved : goal.loop-i-preserved
-loop-i-preserved c =
-    let t = c in
-    let l = t in
-    let w = l.args.w in
-    let i = l.loop-i.i in
-    (search rules, under_next (0x20 ∷ text_of (says_of (Get (get_or shown_names i 0)) w)) (settings_text w (drop (i + 1) shown_names)) l.loop-i.invariant.1 (settings_from w shown_names i t.loop-i-test.true) c.put_setting-to.ensures)
+pub loop-k-preserved : goal.loop-k-preserved
+loop-k-preserved c =
+    let w = c.args.w in
+    let i = c.loop-k.k-index in
+    under_next (0x20 ∷ text_of (says_of (Get (get_or shown_names i 0)) w)) (settings_text w (drop (i + 1) shown_names)) c.loop-k.invariant (settings_from w shown_names i c.loop-k-test.true) c.put_setting-to.ensures
 
 pub returns : goal.returns
-returns c =
-    let l = c in
-    under_none l.loop-i.invariant.1 (settings_behind l.args.w shown_names l.loop-i.i (omega arith))
+returns c = under_none c.loop-k.invariant (settings_behind c.args.w shown_names c.loop-k.k-index (omega arith))
