@@ -9,19 +9,18 @@ use mathlib.Core.List.{List, []}
 use lib.Dec.{eqb}
 use lib.ListN.{length, get_or}
 use borrow.Author.Tests.{lt-ltb, le-ltb}
+use Rattle.std.specs.Prelude.{Result, Err}
 use Rattle.laws.specs.Numbers.{number}
 use Rattle.terms.specs.Answers.{number_of}
 use Rattle.terms.specs.declared.Part.{Part}
 use Rattle.terms.specs.declared.Part.TheVariants.{Request, Item, TooLong, NotMatching}
-use Rattle.terms.specs.declared.Envelope.{Envelope}
-use Rattle.terms.specs.declared.Envelope.TheVariants.{Wrong}
 use Rattle.terms.specs.declared.Answer.TheVariants.{Done, NotForUs, PartWrong}
 use Rattle.terms.proofs.Answers.{told_tells}
 use Rattle.turns.proofs.Turns.{roomy}
 use Rattle.panels.specs.declared.DisplayBox.{DisplayBox}
 use Rattle.sdcp.specs.Replies.{turned, turn_of}
 use Rattle.sdcp_asks.specs.Asks.{is_ours, item_of, data_length_of, request_wrong, item_wrong, envelope_of, heard_of}
-use Rattle.sdcp_asks.specs.declared.Heard.TheVariants.{Broken}
+use Rattle.sdcp_asks.specs.declared.Fault.TheVariants.{Broken}
 use Rattle.sdcp_asks.proofs.Envelopes.{FirstWrong, wrong_heard}
 use Rattle.steps.specs.Messages.{Message, tcp, names, on_link, is_w}
 use Rattle.steps.specs.Addressing.{by_tcp, target}
@@ -37,16 +36,16 @@ use Rattle.receiver.proofs.Calls.{whole_packet}
 abbrev pub overlong_part : List ℕ → Part
 overlong_part m = cond (request_wrong m) Request (cond (item_wrong m) Item TooLong)
 
-overlong_wrong : (m : List ℕ) → 499 < data_length_of m → envelope_of m ≡ Wrong (overlong_part m)
+overlong_wrong : (m : List ℕ) → 499 < data_length_of m → envelope_of m ≡ Err (overlong_part m)
 unfolding envelope_of
 overlong_wrong m n = rw (lt-ltb 499 (data_length_of m) n) (go (request_wrong m) (item_wrong m))
   where
-    go : (q i : Bool) → ◌≡◌ {A = Envelope} (cond q (Wrong Request) (cond i (Wrong Item) (Wrong TooLong))) (Wrong (cond q Request (cond i Item TooLong)))
+    go : (q i : Bool) → ◌≡◌ {A = Result (Unit {0}) Part} (cond q (Err Request) (cond i (Err Item) (Err TooLong))) (Err (cond q Request (cond i Item TooLong)))
     go true i = refl
     go false true = refl
     go false false = refl
 
-heard_broken : (m : List ℕ) → 13 ≤ length m → is_ours m ≡ true → 499 < data_length_of m → heard_of m ≡ Broken (overlong_part m)
+heard_broken : (m : List ℕ) → 13 ≤ length m → is_ours m ≡ true → 499 < data_length_of m → heard_of m ≡ Err (Broken (overlong_part m))
 heard_broken m h o n = wrong_heard m h o (overlong_part m) (overlong_wrong m n)
 
 -- such a message by TCP, once checks 1 and 2 are passed

@@ -1,6 +1,5 @@
 -- KJW: what was said to be done is kept at the panel of the link, since that panel takes the turn that kjw's theorems are about.
 use Prim.Native.Nat.{ℕ, suc, ◌≤◌}
-use native.Mathlib.Omega.{arith}
 use mathlib.Core.Path.{◌≡◌, refl, sym, ap, ◌∙◌}
 use mathlib.Core.Bool.{true}
 use mathlib.Core.List.{List, Memᴰ}

@@ -16,8 +16,7 @@ use Rattle.turns.specs.Turns.{Turn, taken, turn_with}
 use Rattle.panels.specs.declared.WRecord.{WRecord}
 use Rattle.panels.specs.declared.Panel.{Panel}
 use Rattle.panels.specs.declared.DisplayBox.{DisplayBox}
-use Rattle.sdcp_asks.specs.Asks.{cast_of}
-use Rattle.sdcp_asks.specs.declared.Heard.{Heard}
+use Rattle.sdcp_asks.specs.Asks.{cast_of, Heard}
 use Rattle.sdcp.specs.Replies.{answer_of, turn_of, cast_turn_of}
 use Rattle.sdcp.proofs.Ended.{EndedAs, first, turn_ended, cast_ended, cast_turn_ended}
 use Rattle.steps.specs.Messages.{Name, nobody, is_w, on_link, names, tcp, udp}

@@ -14,7 +14,7 @@ use Rattle.terms.specs.Answers.{number_of}
 use Rattle.terms.specs.declared.Answer.TheVariants.{Done}
 use Rattle.terms.specs.declared.Part.{Part}
 use Rattle.terms.specs.declared.Part.TheVariants.{Request, Item, TooLong, NotMatching, Count, Checksum}
-use Rattle.std.specs.Prelude.{None, Result, Ok, Err}
+use Rattle.std.specs.Prelude.{None, Result, Ok, Err, Some}
 use Rattle.panels.specs.Valid.{valid}
 use Rattle.panels.specs.declared.Panel.{Panel}
 use Rattle.panels.specs.declared.KRecord.{KRecord}
@@ -24,7 +24,6 @@ use Rattle.vmc.specs.Orders as words
 use Rattle.trimming.proofs.Trimmed.{ends_bare}
 use Rattle.vmc.proofs.AskedBack.{touches, present}
 use Rattle.vmc_asks.specs.Asks.{read_data}
-use Rattle.vmc_asks.specs.declared.Words.TheVariants.{Understood}
 use Rattle.vmc_asks.specs.declared.Order.TheVariants.{Get}
 use Rattle.vmc_asks.specs.declared.Order as wordOrder
 use Rattle.rs232c_asks.specs.Asks as serialAsks
@@ -48,8 +47,7 @@ use Rattle.sdcp.specs.Replies as packets
 use Rattle.sdcp_asks.specs.Asks as packetAsks
 use Rattle.sdcp_asks.proofs.Cast.{cast_heard}
 use Rattle.sdcp_asks.proofs.Envelopes as packetEnvelopes
-use Rattle.sdcp_asks.specs.declared.Heard as packetHeard
-use Rattle.sdcp_asks.specs.declared.Heard.TheVariants as packetIs
+use Rattle.sdcp_asks.specs.declared.Fault.TheVariants as packetIs
 use Rattle.steps.specs.Messages.{Message, rs232c, kjw, tcp, udp}
 use Rattle.steps.specs.Step.{with_w, with_k, back_on, panel_at, step}
 use Rattle.steps.specs.Run.{run}
@@ -166,11 +164,11 @@ carried_one (kjw l m area) p p' p'' (o, e, q) (o', f, r) =
     let y : o ≡ o' = cc in
     q ∙ ap (λ (x : frameOrder.Order). with_k p (frameOrders.carried x p.k)) y ∙ sym r
 carried_one (tcp l m area) p p' p'' (o, e, q) (o', f, r) =
-    let z : packetIs.Understood o ≡ packetIs.Understood o' = sym e ∙ f in
+    let z : ◌≡◌ {A = packetAsks.Heard} (Ok o) (Ok o') = sym e ∙ f in
     let y : o ≡ o' = cc in
     q ∙ ap (λ (x : wordOrder.Order). with_w p (words.carried x p.w)) y ∙ sym r
 carried_one (udp m) p p' p'' (o, e, q) (o', f, r) =
-    let z : packetIs.Understood o ≡ packetIs.Understood o' = sym e ∙ f in
+    let z : ◌≡◌ {A = packetAsks.Heard} (Ok o) (Ok o') = sym e ∙ f in
     let y : o ≡ o' = cc in
     q ∙ ap (λ (x : wordOrder.Order). with_w p (words.carried x p.w)) y ∙ sym r
 
@@ -188,14 +186,14 @@ runs_on c ms m = run_on ms m (configured c).made
 
 -- ---- what sets is an order that was understood
 
-orders_it_lem : (h : packetHeard.Heard) (j : ℕ) → orders_it h j ≡ true → (o : wordOrder.Order) × (h ≡ packetIs.Understood o) × (touches o j ≡ true)
-orders_it_lem (packetIs.Refused a) j e = absurd (false_true e)
-orders_it_lem (packetIs.Broken p) j e = absurd (false_true e)
-orders_it_lem packetIs.NotUnderstood j e = absurd (false_true e)
-orders_it_lem (packetIs.Understood o) j e = (o, refl, e)
+orders_it_lem : (h : packetAsks.Heard) (j : ℕ) → orders_it h j ≡ true → (o : wordOrder.Order) × (h ≡ Ok o) × (touches o j ≡ true)
+orders_it_lem (Err (packetIs.Refused a)) j e = absurd (false_true e)
+orders_it_lem (Err (packetIs.Broken p)) j e = absurd (false_true e)
+orders_it_lem (Err packetIs.NotUnderstood) j e = absurd (false_true e)
+orders_it_lem (Ok o) j e = (o, refl, e)
 
 pub sets_brings : (m : Message) (j : ℕ) → sets m j ≡ true
-    → (p : List ℕ) × Brings p m × ((o : wordOrder.Order) × (packetAsks.heard_of p ≡ packetIs.Understood o) × (touches o j ≡ true))
+    → (p : List ℕ) × Brings p m × ((o : wordOrder.Order) × (packetAsks.heard_of p ≡ Ok o) × (touches o j ≡ true))
 sets_brings (rs232c l m area) j e = absurd (false_true e)
 sets_brings (kjw l m area) j e = absurd (false_true e)
 sets_brings (tcp l m area) j e = (m, brought l area, orders_it_lem (packetAsks.heard_of m) j e)
@@ -256,14 +254,14 @@ pub told_later_is : {b : DisplayBox} {i k : ℕ} {said : List ℕ}
     → ToldLater b i k said
     → (ms : List Message) → spared (λ (x : Message). sets x k) i b ms ≡ true
     → (l : ℕ) (p area : List ℕ) → Reaches (run b ms) (tcp l p area) i
-    → packetAsks.heard_of p ≡ packetIs.Understood (Get k)
+    → packetAsks.heard_of p ≡ Ok (Get k)
     → (step (run b ms) (tcp l p area)).back ≡ back_on area (packets.packet_of p 0x01 said)
 told_later_is t ms n l p area r e = (t ms n l p area r e).carries
 
 pub brings_back_is : {b : DisplayBox} {i l k : ℕ} {p area said : List ℕ}
     → BringsBack b i l k p area said
     → ((step b (tcp l p area)).back ≡ back_on area (packets.packet_of p 0x01 said)) × (ends_bare said ≡ true)
-    × (read_data (ascii "STATset " ++ said) ≡ Understood (present k (panel_at i b).w))
+    × (read_data (ascii "STATset " ++ said) ≡ Some (present k (panel_at i b).w))
     × (words.carried (present k (panel_at i b).w) (panel_at i b).w ≡ (panel_at i b).w)
 brings_back_is t = (t.tells.carries, t.ends_bare_holds, t.sets_again, t.leaves)
 

@@ -1,14 +1,13 @@
 -- Behind the envelope a message is understood or it is not: by the rungs of what each protocol hears, whatever the panel.
 use Prim.Native.Nat.{ℕ, ◌-◌}
 use mathlib.Core.Path.{◌≡◌, refl, sym, ◌∙◌}
-use mathlib.Core.Bool.{Bool, true, false, not, cond, ◌&&◌, ◌||◌}
+use mathlib.Core.Bool.{Bool, true, false, not, cond, ◌||◌}
 use mathlib.Core.List.{List, [], ◌∷◌}
 use lib.Dec.{eqb, ltb}
 use lib.ListN.{length, get_or, drop}
 use Rattle.std.specs.Prelude.{Option, Some, None, Result, Ok, Err, ok_or}
-use Rattle.laws.specs.Bytes.{ascii, part, same}
-use Rattle.laws.specs.Lists.{every}
-use Rattle.laws.proofs.Conditions.{choose, false_true}
+use Rattle.laws.specs.Bytes.{part}
+use Rattle.laws.proofs.Conditions.{false_true}
 use Rattle.terms.specs.Answers.{part_number, number_of}
 use Rattle.terms.specs.declared.Part.{Part}
 use Rattle.terms.specs.declared.Part.TheVariants.{Request, Item, TooLong, NotMatching, Count, Checksum}
@@ -18,16 +17,13 @@ use Rattle.panels.specs.declared.WRecord.{WRecord}
 use Rattle.panels.specs.declared.KRecord.{KRecord}
 use Rattle.vmc_asks.specs.Asks.{read_data}
 use Rattle.vmc_asks.specs.declared.Order as wordOrder
-use Rattle.vmc_asks.specs.declared.Words.{Words}
-use Rattle.vmc_asks.specs.declared.Words.TheVariants.{Understood as UnderstoodWords, NotUnderstood as NotUnderstoodWords}
 use Rattle.rs232c_asks.specs.Asks as serialAsks
 use Rattle.rs232c_asks.proofs.Envelopes as serialEnvelopes
 use Rattle.rs232c.specs.Replies as serial
 use Rattle.rs232c_asks.specs.declared.Order as serialOrder
 use Rattle.sdcp_asks.specs.Asks as packetAsks
 use Rattle.sdcp.specs.Replies as packets
-use Rattle.sdcp_asks.specs.declared.Heard as packetHeard
-use Rattle.sdcp_asks.specs.declared.Heard.TheVariants as packetIs
+use Rattle.sdcp_asks.specs.declared.Fault.TheVariants as packetIs
 use Rattle.kjw.specs.Replies as frames
 use Rattle.steps.specs.Step.{checks}
 use Rattle.kjw_asks.specs.Asks as frameAsks
@@ -126,11 +122,11 @@ serial_clear m a b c = rw (a, b, c) (go (serialAsks.source_of m) (serialAsks.com
 
 -- ---- SDCP
 
-abbrev pub packet_unclear : packetHeard.Heard → Bool
-packet_unclear (packetIs.Refused a) = false
-packet_unclear (packetIs.Broken p) = false
-packet_unclear packetIs.NotUnderstood = true
-packet_unclear (packetIs.Understood o) = false
+abbrev pub packet_unclear : packetAsks.Heard → Bool
+packet_unclear (Err (packetIs.Refused a)) = false
+packet_unclear (Err (packetIs.Broken p)) = false
+packet_unclear (Err packetIs.NotUnderstood) = true
+packet_unclear (Ok o) = false
 
 -- "Under 13 bytes: 3. Wrong version, category or community, or no panel addressed: 4.", then document 02, §8, "9 request, 10 item, 11 over 499, 12 not
 -- matching", 8 where a status is asked for that may not be, and 6 where the words are not understood
@@ -139,28 +135,28 @@ packet_conditions nobody asked m =
     ltb (length m) 13 ∷ (not (packetAsks.is_ours m) || nobody) ∷ packetAsks.request_wrong m ∷ packetAsks.item_wrong m ∷ packetAsks.too_long m
     ∷ packetAsks.not_matching m ∷ false ∷ false ∷ asked ∷ packet_unclear (packetAsks.heard_of m) ∷ []
 
-abbrev PacketJudged : packetHeard.Heard → Type 0
-PacketJudged (packetIs.Refused a) = ⊥
-PacketJudged (packetIs.Broken p) = ⊥
-PacketJudged packetIs.NotUnderstood = Unit {0}
-PacketJudged (packetIs.Understood o) = Unit {0}
+abbrev PacketJudged : packetAsks.Heard → Type 0
+PacketJudged (Err (packetIs.Refused a)) = ⊥
+PacketJudged (Err (packetIs.Broken p)) = ⊥
+PacketJudged (Err packetIs.NotUnderstood) = Unit {0}
+PacketJudged (Ok o) = Unit {0}
 
-packet_number : (asked : Bool) (h : packetHeard.Heard) → PacketJudged h → number_of (packets.answer_of (packetAsks.unless_status asked h)) ≡ cond asked 8 (cond (packet_unclear h) 6 0)
-packet_number asked (packetIs.Refused a) j = absurd j
-packet_number asked (packetIs.Broken p) j = absurd j
-packet_number true packetIs.NotUnderstood j = refl
-packet_number false packetIs.NotUnderstood j = refl
-packet_number true (packetIs.Understood o) j = refl
-packet_number false (packetIs.Understood o) j = refl
+packet_number : (asked : Bool) (h : packetAsks.Heard) → PacketJudged h → number_of (packets.answer_of (packetAsks.unless_status asked h)) ≡ cond asked 8 (cond (packet_unclear h) 6 0)
+packet_number asked (Err (packetIs.Refused a)) j = absurd j
+packet_number asked (Err (packetIs.Broken p)) j = absurd j
+packet_number true (Err packetIs.NotUnderstood) j = refl
+packet_number false (Err packetIs.NotUnderstood) j = refl
+packet_number true (Ok o) j = refl
+packet_number false (Ok o) j = refl
 
-words_judged : (x : Words) → PacketJudged (packetAsks.in_words x)
-words_judged (UnderstoodWords o) = tt
-words_judged NotUnderstoodWords = tt
+words_judged : (x : Option wordOrder.Order) → PacketJudged (packetAsks.in_words x)
+words_judged (Some o) = tt
+words_judged None = tt
 
 -- the ladder of what is heard of a packet, by its conditions
-abbrev packet_rungs : Bool → Bool → Bool → Bool → Bool → Bool → packetHeard.Heard → packetHeard.Heard
+abbrev packet_rungs : Bool → Bool → Bool → Bool → Bool → Bool → packetAsks.Heard → packetAsks.Heard
 packet_rungs a b q i l n h =
-    cond a (packetIs.Refused WrongLength) (cond b (packetIs.Refused NotForUs)
+    cond a (Err (packetIs.Refused WrongLength)) (cond b (Err (packetIs.Refused NotForUs))
     (packetAsks.unless_wrong (cond q (Err Request) (cond i (Err Item) (cond l (Err TooLong) (cond n (Err NotMatching) (Ok tt))))) h))
 
 -- the number of the answer to a packet, whatever the panel, and whether or not a status is refused
@@ -170,7 +166,7 @@ packet_answered m asked =
     go (ltb (length m) 13) (not (packetAsks.is_ours m)) (packetAsks.request_wrong m) (packetAsks.item_wrong m) (packetAsks.too_long m) (packetAsks.not_matching m) _
     (words_judged (read_data (packetAsks.data_of m)))
   where
-    go : (a b q i l n : Bool) (h : packetHeard.Heard) → PacketJudged h → number_of (packets.answer_of (packetAsks.unless_status asked (packet_rungs a b q i l n h))) ≡ first_of own_checks (a ∷ (b || false) ∷ q ∷ i ∷ l ∷ n ∷ false ∷ false ∷ asked ∷ packet_unclear (packet_rungs a b q i l n h) ∷ [])
+    go : (a b q i l n : Bool) (h : packetAsks.Heard) → PacketJudged h → number_of (packets.answer_of (packetAsks.unless_status asked (packet_rungs a b q i l n h))) ≡ first_of own_checks (a ∷ (b || false) ∷ q ∷ i ∷ l ∷ n ∷ false ∷ false ∷ asked ∷ packet_unclear (packet_rungs a b q i l n h) ∷ [])
     go true b q i l n h j = refl
     go false true q i l n h j = refl
     go false false true i l n h j = refl
@@ -179,24 +175,24 @@ packet_answered m asked =
     go false false false false false true h j = refl
     go false false false false false false h j = packet_number asked h j
 
-pub packet_unclear_lem : (m : List ℕ) → packet_unclear (packetAsks.heard_of m) ≡ true → packetAsks.heard_of m ≡ packetIs.NotUnderstood
+pub packet_unclear_lem : (m : List ℕ) → packet_unclear (packetAsks.heard_of m) ≡ true → packetAsks.heard_of m ≡ Err packetIs.NotUnderstood
 packet_unclear_lem m = go (packetAsks.heard_of m)
   where
-    go : (h : packetHeard.Heard) → packet_unclear h ≡ true → h ≡ packetIs.NotUnderstood
-    go (packetIs.Refused a) u = absurd (false_true u)
-    go (packetIs.Broken p) u = absurd (false_true u)
-    go packetIs.NotUnderstood u = refl
-    go (packetIs.Understood o) u = absurd (false_true u)
+    go : (h : packetAsks.Heard) → packet_unclear h ≡ true → h ≡ Err packetIs.NotUnderstood
+    go (Err (packetIs.Refused a)) u = absurd (false_true u)
+    go (Err (packetIs.Broken p)) u = absurd (false_true u)
+    go (Err packetIs.NotUnderstood) u = refl
+    go (Ok o) u = absurd (false_true u)
 
-pub packet_clear : (m : List ℕ) → ltb (length m) 13 ≡ false → packetAsks.is_ours m ≡ true → packetAsks.envelope_of m ≡ Ok tt → packet_unclear (packetAsks.heard_of m) ≡ false → (o : wordOrder.Order) × (packetAsks.heard_of m ≡ packetIs.Understood o)
+pub packet_clear : (m : List ℕ) → ltb (length m) 13 ≡ false → packetAsks.is_ours m ≡ true → packetAsks.envelope_of m ≡ Ok tt → packet_unclear (packetAsks.heard_of m) ≡ false → (o : wordOrder.Order) × (packetAsks.heard_of m ≡ Ok o)
 unfolding packetAsks.heard_of
 packet_clear m a b c = rw (a, b, c) (go _ (words_judged (read_data (packetAsks.data_of m))))
   where
-    go : (h : packetHeard.Heard) → PacketJudged h → packet_unclear h ≡ false → (o : wordOrder.Order) × (h ≡ packetIs.Understood o)
-    go (packetIs.Refused a) j u = absurd j
-    go (packetIs.Broken p) j u = absurd j
-    go packetIs.NotUnderstood j u = absurd (false_true (sym u))
-    go (packetIs.Understood o) j u = (o, refl)
+    go : (h : packetAsks.Heard) → PacketJudged h → packet_unclear h ≡ false → (o : wordOrder.Order) × (h ≡ Ok o)
+    go (Err (packetIs.Refused a)) j u = absurd j
+    go (Err (packetIs.Broken p)) j u = absurd j
+    go (Err packetIs.NotUnderstood) j u = absurd (false_true (sym u))
+    go (Ok o) j u = (o, refl)
 
 -- ---- KJW
 

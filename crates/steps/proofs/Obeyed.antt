@@ -19,10 +19,9 @@ use Rattle.vmc.specs.Orders as words
 use Rattle.vmc_asks.specs.declared.Order as wordOrder
 use Rattle.sdcp_asks.specs.Asks as packetAsks
 use Rattle.sdcp.specs.Replies as packets
-use Rattle.sdcp_asks.specs.declared.Heard.TheVariants as packetIs
 use Rattle.sdcp_asks.proofs.Cast.{cast_heard}
 use Rattle.sdcp.proofs.Cast.{cast_carries}
-use Rattle.sdcp.specs.declared.Reply.TheVariants.{Ok}
+use Rattle.sdcp.specs.declared.Reply.TheVariants.{Ok as OkWith}
 use Rattle.kjw.specs.Replies as frames
 use Rattle.kjw.specs.Orders as frameOrders
 use Rattle.kjw_asks.specs.Asks as frameAsks
@@ -69,11 +68,11 @@ pub data Brings (p : List ℕ) : Message → Type 0 where
   by_udp : Brings p (udp p)
 
 -- what a panel does with an order that it understood, where there is room for the reply
-pub told_order : (room : ℕ) (p : List ℕ) (o : wordOrder.Order) (w : WRecord) → 512 ≤ room → packetAsks.heard_of p ≡ packetIs.Understood o → taken room (packets.turn_of p) w ≡ record { after = words.carried o w; answer = Done; reply = packets.bytes_of p (Ok (words.says_of o w)) }
+pub told_order : (room : ℕ) (p : List ℕ) (o : wordOrder.Order) (w : WRecord) → 512 ≤ room → packetAsks.heard_of p ≡ Ok o → taken room (packets.turn_of p) w ≡ record { after = words.carried o w; answer = Done; reply = packets.bytes_of p (OkWith (words.says_of o w)) }
 unfolding taken packets.turned
 told_order room p o w h e = rw (le-ltb room 512 h, e)
 
-pub obeyed : {b : DisplayBox} {m : Message} {i : ℕ} (p : List ℕ) (o : wordOrder.Order) → Brings p m → packetAsks.heard_of p ≡ packetIs.Understood o → Reaches b m i → panel_at i (step b m).box ≡ with_w (panel_at i b) (words.carried o (panel_at i b).w)
+pub obeyed : {b : DisplayBox} {m : Message} {i : ℕ} (p : List ℕ) (o : wordOrder.Order) → Brings p m → packetAsks.heard_of p ≡ Ok o → Reaches b m i → panel_at i (step b m).box ≡ with_w (panel_at i b) (words.carried o (panel_at i b).w)
 unfolding turn packets.turned
 obeyed {b} {m} {i} p o (by_tcp_lem l area) e r =
     takes r
@@ -88,8 +87,8 @@ obeyed {b} {m} {i} p o by_udp e r =
 abbrev pub Carried : Message → Panel → Panel → Type 0
 Carried (rs232c l m area) p p' = (s : ℕ) × (o : serialOrder.Order) × (serialAsks.heard_of m ≡ serialAsks.understood s o) × (p' ≡ with_w p (serialOrders.carried o (serialAsks.values_of m) p.w))
 Carried (kjw l m area) p p' = (o : frameOrder.Order) × (frameAsks.heard_of m ≡ Ok o) × (p' ≡ with_k p (frameOrders.carried o p.k))
-Carried (tcp l m area) p p' = (o : wordOrder.Order) × (packetAsks.heard_of m ≡ packetIs.Understood o) × (p' ≡ with_w p (words.carried o p.w))
-Carried (udp m) p p' = (o : wordOrder.Order) × (packetAsks.heard_of m ≡ packetIs.Understood o) × (p' ≡ with_w p (words.carried o p.w))
+Carried (tcp l m area) p p' = (o : wordOrder.Order) × (packetAsks.heard_of m ≡ Ok o) × (p' ≡ with_w p (words.carried o p.w))
+Carried (udp m) p p' = (o : wordOrder.Order) × (packetAsks.heard_of m ≡ Ok o) × (p' ≡ with_w p (words.carried o p.w))
 
 -- "A set that was accepted stands in the record when its reply is handed out": whatever the box, so in each that a configuration and messages lead
 -- to, a message that is answered 0 leaves the order that was understood carried out at every panel that it is addressed to

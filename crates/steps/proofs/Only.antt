@@ -30,7 +30,7 @@ use Rattle.sdcp_asks.specs.Asks as packetAsks
 use Rattle.sdcp_asks.proofs.Envelopes as packetEnvelopes
 use Rattle.sdcp_asks.proofs.Cast.{cast_plain}
 use Rattle.vmc_asks.specs.declared.Order as wordOrder
-use Rattle.sdcp_asks.specs.declared.Heard.TheVariants as packetIs
+use Rattle.sdcp_asks.specs.declared.Fault.TheVariants as packetIs
 use Rattle.steps.specs.Messages.{Message, rs232c, kjw, tcp, udp, Name, nobody, names}
 use Rattle.steps.specs.Addressing.{target, is_called, addressed, any_called}
 use Rattle.steps.specs.Step.{checks, panel_at, step}
@@ -105,15 +105,15 @@ Asking (udp m) = asks_status (packetAsks.data_of m) ≡ true
 abbrev pub Unclear : Message → Type 0
 Unclear (rs232c l m area) = (s : ℕ) × (serialAsks.heard_of m ≡ serialAsks.not_understood s)
 Unclear (kjw l m area) = frameAsks.heard_of m ≡ Err frameIs.NotUnderstood
-Unclear (tcp l m area) = packetAsks.heard_of m ≡ packetIs.NotUnderstood
-Unclear (udp m) = packetAsks.cast_of m ≡ packetIs.NotUnderstood
+Unclear (tcp l m area) = packetAsks.heard_of m ≡ Err packetIs.NotUnderstood
+Unclear (udp m) = packetAsks.cast_of m ≡ Err packetIs.NotUnderstood
 
 -- 0: an order was understood
 abbrev pub Clear : Message → Type 0
 Clear (rs232c l m area) = (s : ℕ) × (o : serialOrder.Order) × (serialAsks.heard_of m ≡ serialAsks.understood s o)
 Clear (kjw l m area) = (o : frameOrder.Order) × (frameAsks.heard_of m ≡ Ok o)
-Clear (tcp l m area) = (o : wordOrder.Order) × (packetAsks.heard_of m ≡ packetIs.Understood o)
-Clear (udp m) = (o : wordOrder.Order) × (packetAsks.cast_of m ≡ packetIs.Understood o)
+Clear (tcp l m area) = (o : wordOrder.Order) × (packetAsks.heard_of m ≡ Ok o)
+Clear (udp m) = (o : wordOrder.Order) × (packetAsks.cast_of m ≡ Ok o)
 
 -- ---- the first that holds
 

@@ -12,7 +12,7 @@ use Rattle.terms.specs.Answers.{number_of}
 use Rattle.terms.specs.declared.Part.{Part}
 use Rattle.terms.specs.declared.Answer.{Answer}
 use Rattle.terms.specs.declared.Answer.TheVariants.{Done, AreaTooSmall, NoSuchPanel, WrongLength, NotForUs, EnvelopeWrong, NotUnderstood, BadConfiguration, StatusByBroadcast, PartWrong}
-use Rattle.std.specs.Prelude.{Err}
+use Rattle.std.specs.Prelude.{Err, Option, Some, None}
 use Rattle.terms.proofs.Answers.{part_late}
 use Rattle.turns.specs.Turns.{Turn}
 use Rattle.turns.proofs.Turns.{either}
@@ -24,11 +24,9 @@ use Rattle.rs232c_asks.proofs.Envelopes as serialEnvelopes
 use Rattle.rs232c.specs.Replies as serial
 use Rattle.kjw_asks.specs.Asks as frameAsks
 use Rattle.kjw.specs.Replies as frames
+use Rattle.vmc_asks.specs.declared.Order.{Order}
 use Rattle.vmc_asks.specs.Asks.{read_data, asks_status}
-use Rattle.vmc_asks.specs.declared.Words.{Words}
-use Rattle.vmc_asks.specs.declared.Words.TheVariants.{Understood as UnderstoodWords, NotUnderstood as NotUnderstoodWords}
 use Rattle.sdcp_asks.specs.Asks as packetAsks
-use Rattle.sdcp_asks.specs.declared.Heard as packetHeard
 use Rattle.sdcp_asks.proofs.Cast.{unless_not}
 use Rattle.sdcp_asks.proofs.Envelopes as packetEnvelopes
 use Rattle.sdcp.specs.Replies as packets
@@ -82,15 +80,15 @@ serial_told : (x : Message) (m vs : List ℕ) (w : WRecord) → ((p : Part) → 
 unfolding serial.turned
 serial_told x m vs w f = serialEnvelopes.by_rungs (λ (h : serialAsks.Heard). Told x (serial.turned h vs w).answer) m tt tt f (λ n. tt) (λ o n. tt)
 
-words_told : (x : Message) (asked : Bool) (y : Words) → Told x (packets.answer_of (packetAsks.unless_status asked (packetAsks.in_words y)))
-words_told x true (UnderstoodWords o) = tt
-words_told x false (UnderstoodWords o) = tt
-words_told x true NotUnderstoodWords = tt
-words_told x false NotUnderstoodWords = tt
+words_told : (x : Message) (asked : Bool) (y : Option Order) → Told x (packets.answer_of (packetAsks.unless_status asked (packetAsks.in_words y)))
+words_told x true (Some o) = tt
+words_told x false (Some o) = tt
+words_told x true None = tt
+words_told x false None = tt
 
 packet_told : (x : Message) (m : List ℕ) (asked : Bool) → ((p : Part) → packetAsks.envelope_of m ≡ Err p → Broken x p) → Told x (packets.answer_of (packetAsks.unless_status asked (packetAsks.heard_of m)))
 packet_told x m asked f =
-    packetEnvelopes.by_rungs (λ (h : packetHeard.Heard). Told x (packets.answer_of (packetAsks.unless_status asked h))) m tt tt (λ h. f)
+    packetEnvelopes.by_rungs (λ (h : packetAsks.Heard). Told x (packets.answer_of (packetAsks.unless_status asked h))) m tt tt (λ h. f)
     (λ h. words_told x asked (read_data (packetAsks.data_of m)))
 
 -- an answer under 9 tells no part

@@ -8,6 +8,7 @@ use native.Mathlib.Omega.{arith}
 use lib.Dec.{eqb, leb}
 use lib.ListN.{length, take, length-take}
 use lib.Seq.{get_or-take}
+use Rattle.std.specs.Prelude.{Some, Ok}
 use Rattle.laws.specs.Bytes.{ascii}
 use Rattle.laws.specs.Lists.{every}
 use Rattle.laws.proofs.Conditions.{and_first, and_second, false_true}
@@ -24,10 +25,8 @@ use Rattle.vmc.proofs.AskedBack.{present, told_back, told_bare, present_leaves}
 use Rattle.vmc.proofs.Validity.{understood_fits}
 use Rattle.vmc_asks.specs.Asks.{read_data}
 use Rattle.vmc_asks.specs.declared.Order.TheVariants.{Get}
-use Rattle.vmc_asks.specs.declared.Words.TheVariants.{Understood as UnderstoodWords}
 use Rattle.vmc_tells.specs.Texts.{text_of}
 use Rattle.sdcp_asks.specs.Asks.{data_of, heard_of}
-use Rattle.sdcp_asks.specs.declared.Heard.TheVariants.{Understood}
 use Rattle.steps.specs.Messages.{Message, a_w, a_k, nobody, is_w, name_of, tcp}
 use Rattle.steps.specs.Step.{panel_at}
 use Rattle.sdcp.proofs.Cast.{heard_words}
@@ -69,10 +68,10 @@ pub record BringsBack (b : DisplayBox) (i l k : ℕ) (p area words : List ℕ) :
   -- document 02, §2: "our own replies still end bare"
   pub ends_bare_holds : ends_bare words ≡ true
   -- "the words that would set the present value": put behind `STATset ` they are understood, and leave the record as it is
-  pub sets_again : read_data (ascii "STATset " ++ words) ≡ UnderstoodWords (present k (panel_at i b).w)
+  pub sets_again : read_data (ascii "STATset " ++ words) ≡ Some (present k (panel_at i b).w)
   pub leaves : carried (present k (panel_at i b).w) (panel_at i b).w ≡ (panel_at i b).w
 
-pub read_back : (c : List ℕ) (ms : List Message) (i l k : ℕ) (p area : List ℕ) → Reaches (run_from c ms) (tcp l p area) i → heard_of p ≡ Understood (Get k) → BringsBack (run_from c ms) i l k p area (text_of (says_of (Get k) (panel_at i (run_from c ms)).w))
+pub read_back : (c : List ℕ) (ms : List Message) (i l k : ℕ) (p area : List ℕ) → Reaches (run_from c ms) (tcp l p area) i → heard_of p ≡ Ok (Get k) → BringsBack (run_from c ms) i l k p area (text_of (says_of (Get k) (panel_at i (run_from c ms)).w))
 read_back c ms i l k p area r e = record {
   tells = asked b i l k p area r e;
   ends_bare_holds = told_bare k w (reached_well r) two name;

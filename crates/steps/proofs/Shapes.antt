@@ -35,8 +35,8 @@ use Rattle.rs232c_asks.specs.declared.Order as serialOrder
 use Rattle.rs232c_asks.specs.declared.Order.TheVariants.{Config, Select, Levels, Sense, Remote}
 use Rattle.sdcp_asks.specs.Asks.{heard_of, cast_of}
 use Rattle.sdcp.specs.Replies as packets
-use Rattle.sdcp_asks.specs.declared.Heard as packetHeard
-use Rattle.sdcp_asks.specs.declared.Heard.TheVariants as packetIs
+use Rattle.sdcp_asks.specs.Asks as packetAsks
+use Rattle.sdcp_asks.specs.declared.Fault.TheVariants as packetIs
 use Rattle.steps.specs.Messages.{Message, rs232c, kjw, tcp, udp}
 use Rattle.steps.specs.Step.{turn, panel_at, step}
 use Rattle.steps.specs.Run.{run}
@@ -97,12 +97,12 @@ unfolding serial.turned
 serial_turned (Err a) vs w s = s
 serial_turned (Ok x) vs w s = serial_replied x.source x.order vs w s
 
-packet_turned : (m : List ℕ) (h : packetHeard.Heard) (w : WRecord) → Shaped w → Shaped (packets.turned m h w).after
+packet_turned : (m : List ℕ) (h : packetAsks.Heard) (w : WRecord) → Shaped w → Shaped (packets.turned m h w).after
 unfolding packets.turned
-packet_turned m (packetIs.Refused a) w s = s
-packet_turned m (packetIs.Broken p) w s = s
-packet_turned m packetIs.NotUnderstood w s = s
-packet_turned m (packetIs.Understood o) w s = words_keep o w s
+packet_turned m (Err (packetIs.Refused a)) w s = s
+packet_turned m (Err (packetIs.Broken p)) w s = s
+packet_turned m (Err packetIs.NotUnderstood) w s = s
+packet_turned m (Ok o) w s = words_keep o w s
 
 turn_shaped : (m : Message) (p : Panel) → Shaped p.w → Shaped (turn m p).after.w
 unfolding turn

@@ -32,8 +32,7 @@ use Rattle.kjw.proofs.Validity as frameValidity
 use Rattle.kjw.proofs.Refusals as frameRefusals
 use Rattle.sdcp_asks.specs.Asks as packetAsks
 use Rattle.sdcp.specs.Replies as packets
-use Rattle.sdcp_asks.specs.declared.Heard as packetHeard
-use Rattle.sdcp_asks.specs.declared.Heard.TheVariants as packetIs
+use Rattle.sdcp_asks.specs.declared.Fault.TheVariants as packetIs
 use Rattle.sdcp.proofs.Refusals as packetRefusals
 use Rattle.sdcp.proofs.Cast as packetCast
 use Rattle.sdcp.proofs.Validity as packetValidity
@@ -65,12 +64,12 @@ frame_quiet : (m : List ℕ) (k : KRecord) → Quiet (number_of (frames.turn_of 
 unfolding frames.turn_of
 frame_quiet m k = frame_heard (frameAsks.heard_of m) _ k
 
-packet_heard : (m : List ℕ) (h : packetHeard.Heard) (w : WRecord) → Quiet (number_of (packets.turned m h w).answer) (packets.turned m h w).reply
+packet_heard : (m : List ℕ) (h : packetAsks.Heard) (w : WRecord) → Quiet (number_of (packets.turned m h w).answer) (packets.turned m h w).reply
 unfolding packets.turned
-packet_heard m (packetIs.Refused a) w z l = refl
-packet_heard m (packetIs.Broken p) w z l = let n = part_late p in absurd (omega (arith, n, l))
-packet_heard m packetIs.NotUnderstood w z l = absurd (omega arith)
-packet_heard m (packetIs.Understood o) w z l = absurd (z refl)
+packet_heard m (Err (packetIs.Refused a)) w z l = refl
+packet_heard m (Err (packetIs.Broken p)) w z l = let n = part_late p in absurd (omega (arith, n, l))
+packet_heard m (Err packetIs.NotUnderstood) w z l = absurd (omega arith)
+packet_heard m (Ok o) w z l = absurd (z refl)
 
 -- ---- a panel whose W record, or K record, is another: valid where that record is, or is not judged
 

@@ -6,6 +6,7 @@ use mathlib.Core.List.{List, [], ◌∷◌}
 use lib.Dec.{eqb}
 use lib.ListN.{length, get_or}
 use borrow.Author.Tests.{eqb-false, not-true}
+use Rattle.std.specs.Prelude.{Ok, Err}
 use Rattle.laws.specs.Lists.{every}
 use Rattle.laws.proofs.Conditions.{false_true, and_first, and_second}
 use Rattle.turns.specs.Turns.{Turn, taken}
@@ -23,10 +24,9 @@ use Rattle.kjw_values.specs.Values.{value_of}
 use Rattle.kjw_asks.specs.Asks as frameAsks
 use Rattle.kjw_sets.specs.declared.State.{State}
 use Rattle.kjw.proofs.Stays as frameStays
-use Rattle.sdcp_asks.specs.Asks.{heard_of, cast_of}
+use Rattle.sdcp_asks.specs.Asks.{heard_of, cast_of, Heard}
 use Rattle.sdcp.specs.Replies as packets
-use Rattle.sdcp_asks.specs.declared.Heard.{Heard}
-use Rattle.sdcp_asks.specs.declared.Heard.TheVariants.{Refused, Broken, NotUnderstood, Understood}
+use Rattle.sdcp_asks.specs.declared.Fault.TheVariants.{Refused, Broken, NotUnderstood}
 use Rattle.steps.specs.Messages.{Message, rs232c, kjw, tcp, udp, Name, names}
 use Rattle.steps.specs.Addressing.{addressed}
 use Rattle.steps.specs.Step.{turn, panel_at, step}
@@ -36,10 +36,10 @@ use Rattle.steps.proofs.Validity.{names_kept}
 
 -- what was heard is an order that sets name j
 abbrev pub orders_it : Heard → ℕ → Bool
-orders_it (Refused a) j = false
-orders_it (Broken p) j = false
-orders_it NotUnderstood j = false
-orders_it (Understood o) j = word_back.touches o j
+orders_it (Err (Refused a)) j = false
+orders_it (Err (Broken p)) j = false
+orders_it (Err NotUnderstood) j = false
+orders_it (Ok o) j = word_back.touches o j
 
 -- a message that sets name j at the panels that it is addressed to: an SDCP packet with such an order
 abbrev pub sets : Message → ℕ → Bool
@@ -74,10 +74,10 @@ unmoved h w = record { told_stays = λ j n. refl; spare_stays = refl; inputs_sta
 
 turned_left : (m : List ℕ) (h : Heard) (w : WRecord) → Left h w (packets.turned m h w).after
 unfolding packets.turned
-turned_left m (Refused a) w = unmoved (Refused a) w
-turned_left m (Broken p) w = unmoved (Broken p) w
-turned_left m NotUnderstood w = unmoved NotUnderstood w
-turned_left m (Understood o) w =
+turned_left m (Err (Refused a)) w = unmoved (Err (Refused a)) w
+turned_left m (Err (Broken p)) w = unmoved (Err (Broken p)) w
+turned_left m (Err NotUnderstood) w = unmoved (Err NotUnderstood) w
+turned_left m (Ok o) w =
     let s = wordStays.stays o w in
     record { told_stays = s.told_stays; spare_stays = s.spare_stays; inputs_stay = s.inputs_stay; balance_stays = s.balance_stays }
 

@@ -5,6 +5,7 @@ use mathlib.Core.Bool.{true}
 use mathlib.Core.List.{List, [], ◌∷◌}
 use lib.Dec.{lit<}
 use lib.ListN.{length, get_or}
+use Rattle.std.specs.Prelude.{Some}
 use Rattle.laws.specs.Bytes.{ascii}
 use Rattle.terms.specs.declared.Answer.TheVariants.{Done}
 use Rattle.panels.specs.Records.{family_w, family_k}
@@ -13,7 +14,6 @@ use Rattle.trimming.proofs.Trimmed.{ends_bare}
 use Rattle.vmc.specs.Orders.{carried}
 use Rattle.vmc_asks.specs.Asks.{read_data}
 use Rattle.vmc_asks.specs.declared.Order.TheVariants.{Set}
-use Rattle.vmc_asks.specs.declared.Words.TheVariants.{Understood}
 use Rattle.rs232c_asks.specs.Asks.{sense_command}
 use Rattle.rs232c_tells.specs.Texts.{bytes_of}
 use Rattle.rs232c_asks.specs.declared.Which.TheVariants.{Gains, Biases}
@@ -78,7 +78,7 @@ volume_told =
 
 -- its words end bare, and set the value again, which leaves the record as it is
 pub volume_again : ((step volume_set (tcp 1 ask room)).back ≡ back_on room (packet 0 0 0x01 0x00 9 (ascii "VOLUME 40"))) × (ends_bare (ascii "VOLUME 40") ≡ true)
-    × (read_data (ascii "STATset VOLUME 40") ≡ Understood (Set 2 40)) × (carried (Set 2 40) (panel_at 0 volume_set).w ≡ (panel_at 0 volume_set).w)
+    × (read_data (ascii "STATset VOLUME 40") ≡ Some (Set 2 40)) × (carried (Set 2 40) (panel_at 0 volume_set).w ≡ (panel_at 0 volume_set).w)
 unfolding opened
 volume_again =
     let x = read_back two (udp set ∷ others) 0 1 2 ask room (record { passes = refl; meant = refl }) refl in
