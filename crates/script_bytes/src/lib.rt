@@ -62,10 +62,9 @@ pub fn answer_sum(b: DisplayBox, line: &[u8], out: &mut [u8]) -> Answered
 {
     let mut bytes = [0u8; 1024];
     let n = bytes_at(line, 1, &mut bytes);
-    let word = if sums_to_zero(&bytes[..n]) {
-        b"yes".as_slice()
+    if sums_to_zero(&bytes[..n]) {
+        say(b, out, b"yes")
     } else {
-        b"no".as_slice()
-    };
-    say(b, out, word)
+        say(b, out, b"no")
+    }
 }

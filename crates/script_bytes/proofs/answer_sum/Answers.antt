@@ -11,8 +11,8 @@ returns-then-sums_to_zero c =
     let e = ap sums_to_zero (sym (front c.bytes_at-n.ensures)) ∙ sym c.sums_to_zero.ensures ∙ c.if-sums_to_zero.true in
     rw e c.say.ensures
 
-pub returns : goal.returns
+pub returns-else-sums_to_zero : goal.returns-else-sums_to_zero
 unfolding summed
-returns c =
+returns-else-sums_to_zero c =
     let e = ap sums_to_zero (sym (front c.bytes_at-n.ensures)) ∙ sym c.sums_to_zero.ensures ∙ c.if-sums_to_zero.false in
-    rw e c.say-2.ensures
+    rw e c.say-else-sums_to_zero.ensures
