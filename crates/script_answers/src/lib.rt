@@ -7,7 +7,7 @@ ghost use Rattle.script_answers.specs.Endings.{Ends};
 
 use panels::DisplayBox;
 use script_text::{put, put_placed, put_reply};
-use terms::{Answer, answer_number, answer_place};
+use terms::Answer;
 
 // What a line did: the box after it, and the length of its text.
 #[derive(Clone, Copy)]
@@ -36,7 +36,7 @@ pub fn say(b: DisplayBox, out: &mut [u8], text: &[u8]) -> Answered
 pub fn say_answer(b: DisplayBox, out: &mut [u8], answer: Answer) -> Answered
     ensures { Answers (writes b (answer_text answer)) result out.old out.new }
 {
-    let at = put_placed(out, 0, answer_number(answer), answer_place(answer));
+    let at = put_placed(out, 0, answer.number(), answer.place());
     ended(b, out, at)
 }
 
@@ -55,7 +55,7 @@ pub fn say_reply(b: DisplayBox, answer: Answer, len: usize, area: &[u8], out: &m
     ensures { Answers (writes b (replied answer len area.now)) result out.old out.new }
 {
     let n = front_length(len, area);
-    let number = answer_number(answer);
-    let at = put_reply(out, 0, number, answer_place(answer), &area[..n], &area[n..]);
+    let number = answer.number();
+    let at = put_reply(out, 0, number, answer.place(), &area[..n], &area[n..]);
     ended(b, out, at)
 }

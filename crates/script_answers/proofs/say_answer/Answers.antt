@@ -8,5 +8,5 @@ unfolding writes
 returns c =
     let e = c.ended.ensures in
     let p = c in
-    let text = rw (p.answer_number.ensures, p.answer_place.ensures) at p.put_placed-at.ensures in
+    let text = rw (p.number.ensures, p.place.ensures) at p.put_placed-at.ensures in
     record { box_is = e.box_is; text_is = puts_then text e.text_is }

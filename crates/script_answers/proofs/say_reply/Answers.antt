@@ -35,5 +35,5 @@ returns c =
     let a = number.args in
     let s = a.area.now in
     let k = a.len in
-    let text = rw (number.answer_number-number.ensures, place.answer_place.ensures, front k s front_is, rest k s front_is) at p.put_reply-at.ensures in
+    let text = rw (c.number-number.ensures, c.place.ensures, front k s front_is, rest k s front_is) at p.put_reply-at.ensures in
     record { box_is = e.box_is; text_is = puts_then text e.text_is }
