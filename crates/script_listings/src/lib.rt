@@ -25,38 +25,34 @@ fn put_entry(out: &mut [u8], at: usize, start: usize, length: usize) -> usize
 }
 
 // The entries, one behind the other.
-fn put_entries(out: &mut [u8], at: usize, l: Listing) -> usize
-    requires { Within 1024 l }
-    ensures { Puts (listed_text l) out.old at out.new result }
+fn put_entries(out: &mut [u8], at: usize, l: &Listing) -> usize
+    requires { Within 1024 l.now }
+    ensures { Puts (listed_text l.now) out.old at out.new result }
 {
-    let starts = l.starts;
-    let lengths = l.lengths;
-    let count = l.count;
     let mut to = at;
-    let mut i = 0;
-    while i < count {
-        to = put_entry(out, to, starts[i], lengths[i]);
-        i += 1;
+    for i in 0..l.count {
+        to = put_entry(out, to, l.starts[i], l.lengths[i]);
     }
     to
 }
 
 // Where the list ends, or the reader stopped.
-fn put_end(out: &mut [u8], at: usize, l: Listing) -> usize
-    requires { Within 1024 l }
-    ensures { Puts (end_text l) out.old at out.new result }
+#[tactic(auto, using(std::proofs::lemmas::Bool::Decides::nat_tests), unfolding(crate::specs::Listings::end_text))]
+fn put_end(out: &mut [u8], at: usize, l: &Listing) -> usize
+    requires { Within 1024 l.now }
+    ensures { Puts (end_text l.now) out.old at out.new result }
 {
     let n = l.end as u32;
-    if l.stopped == 0 {
-        return put_number_text(out, at, b" end ", n);
+    match l.stopped {
+        0 => put_number_text(out, at, b" end ", n),
+        _ => put_number_text(out, at, b" stop ", n),
     }
-    put_number_text(out, at, b" stop ", n)
 }
 
 // The whole list.
-fn put_listing(out: &mut [u8], at: usize, l: Listing) -> usize
-    requires { Within 1024 l }
-    ensures { Puts (plain_text l) out.old at out.new result }
+fn put_listing(out: &mut [u8], at: usize, l: &Listing) -> usize
+    requires { Within 1024 l.now }
+    ensures { Puts (plain_text l.now) out.old at out.new result }
 {
     let a = put(out, at, b"plain");
     let e = put_entries(out, a, l);
@@ -68,7 +64,6 @@ pub fn answer_plain(b: DisplayBox, line: &[u8], out: &mut [u8]) -> Answered
 {
     let mut bytes = [0u8; 1024];
     let n = bytes_at(line, 1, &mut bytes);
-    let l = read_plain(&bytes[..n]);
-    let at = put_listing(out, 0, l);
+    let at = put_listing(out, 0, &read_plain(&bytes[..n]));
     ended(b, out, at)
 }

@@ -13,15 +13,11 @@ use Rattle.script_listings.proofs.answer_plain.Goals as goal
 
 pub put_listing-at-requires : goal.put_listing-at-requires
 put_listing-at-requires c =
-    let read = c in
-    let line = read.args.line.now in
-    rw (read.read_plain-l.ensures, front read.bytes_at-n.ensures) (listed_within (bytes_at 1 line) 1024 (bytes_most 1 line))
+    let line = c.args.line.now in
+    rw (c.read_plain.ensures, front c.bytes_at-n.ensures) (listed_within (bytes_at 1 line) 1024 (bytes_most 1 line))
 
 pub returns : goal.returns
 unfolding writes
 returns c =
-    let end = c.ended.ensures in
-    let text = c in
-    let read = text in
-    let e = read.read_plain-l.ensures ∙ ap plain (front read.bytes_at-n.ensures) in
-    record { box_is = end.box_is; text_is = puts_then (puts_as (ap plain_text e) text.put_listing-at.ensures) end.text_is }
+    let e = c.read_plain.ensures ∙ ap plain (front c.bytes_at-n.ensures) in
+    record { box_is = c.ended.ensures.box_is; text_is = puts_then (puts_as (ap plain_text e) c.put_listing-at.ensures) c.ended.ensures.text_is }

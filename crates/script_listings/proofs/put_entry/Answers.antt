@@ -5,6 +5,4 @@ use Rattle.script_listings.proofs.put_entry.Goals as goal
 
 pub returns : goal.returns
 unfolding entry_text
-returns c =
-    let second = c in
-    puts_then second.put_number_text-to.ensures second.put_number_text.ensures
+returns c = puts_then c.put_number_text-to.ensures c.put_number_text.ensures

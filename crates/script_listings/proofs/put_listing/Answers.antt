@@ -5,7 +5,4 @@ use Rattle.script_listings.proofs.put_listing.Goals as goal
 
 pub returns : goal.returns
 unfolding plain_text
-returns c =
-    let third = c in
-    let second = third in
-    puts_then (puts_then second.put-a.ensures second.put_entries-e.ensures) third.put_end.ensures
+returns c = puts_then (puts_then c.put-a.ensures c.put_entries-e.ensures) c.put_end.ensures
