@@ -4,17 +4,16 @@ use mathlib.Core.List.{List}
 use Prim.Native.Nat.{ℕ}
 use lib.ListN.{length}
 use Rattle.laws.specs.Bytes.{laid}
-use Rattle.setting_texts.specs.Names.{lead_of, words_of, word_of}
-use Rattle.setting_texts.specs.Rows.{text_of, row_of, first_word}
+use Rattle.setting_texts.specs.Names.{name_of, lead_of, words_of, word_of}
 
-pub row_text_one : (row : ℕ) (r r' : List ℕ) → r ≡ row_of row → r' ≡ row_of row → r ≡ r'
-row_text_one row r r' p q = p ∙ sym q
+pub lead_one : (k : ℕ) (r r' : List ℕ) → r ≡ lead_of k → r' ≡ lead_of k → r ≡ r'
+lead_one k r r' p q = p ∙ sym q
 
-pub text_length_one : (row r r' : ℕ) → r ≡ length (text_of row) → r' ≡ length (text_of row) → r ≡ r'
-text_length_one row r r' p q = p ∙ sym q
+pub name_one : (k : ℕ) (r r' : List ℕ) → r ≡ name_of k → r' ≡ name_of k → r ≡ r'
+name_one k r r' p q = p ∙ sym q
 
-pub first_word_one : (k r r' : ℕ) → r ≡ first_word k → r' ≡ first_word k → r ≡ r'
-first_word_one k r r' p q = p ∙ sym q
+pub word_one : (k v : ℕ) (r r' : List ℕ) → r ≡ word_of k v → r' ≡ word_of k v → r ≡ r'
+word_one k v r r' p q = p ∙ sym q
 
 pub word_count_one : (k r r' : ℕ) → r ≡ length (words_of k) → r' ≡ length (words_of k) → r ≡ r'
 word_count_one k r r' p q = p ∙ sym q

@@ -1,4 +1,5 @@
 pub mod Choices
 pub mod Determined
-mod Rules
 pub mod Search
+pub mod Found
+pub mod Firsts

@@ -1,19 +1,10 @@
--- `led` searches the rows of the names, which are the first.
-use Prim.Native.Nat.{ℕ, ◌+◌}
-use mathlib.Core.Path.{ap, ◌∙◌}
-use mathlib.Core.Bool.{false}
-use mathlib.Core.List.{List}
-use Rattle.laws.specs.Bytes.{begins}
-use Rattle.setting_texts.specs.Names.{lead_of}
-use Rattle.setting_words.specs.Names.{led_by}
-use Rattle.setting_words.specs.Rows.{meets}
-use Rattle.setting_texts.proofs.Rules.{lead_row_lem}
-use Rattle.setting_words.proofs.Search.{first_same}
+-- `led` asks the names in turn, each with what parts it from its value.
+use mathlib.Core.Path.{refl}
+use Rattle.std.proofs.Common.{rules, ◌∙◌}
+use Rattle.std.proofs.lemmas.Iterator.{YieldsList-from_range}
+use Rattle.std.proofs.lemmas.Iterator.Search.{position_from_yields_List}
+use Rattle.setting_words.proofs.Found.{is_led, first_led}
 use Rattle.setting_words.proofs.led.Goals as goal
 
 pub returns : goal.returns
-unfolding meets led_by
-returns c =
-    let s = c.args.s.now in
-    c.find.ensures ∙ first_same 23 0 (λ (k : ℕ). meets false (0 + k) s) (λ (k : ℕ). begins (lead_of k) s)
-    (λ k h. ap (λ (t : List ℕ). begins t s) (lead_row_lem k h))
+returns c = position_from_yields_List (is_led c.args.s.now) _ _ _ c.position.ensures.ran (YieldsList-from_range 0 _ 23 refl refl) (λ x b q k. search rules) ∙ first_led c.args.s.now

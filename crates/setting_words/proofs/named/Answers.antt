@@ -1,18 +1,10 @@
--- `named` searches the rows of the names, which are the first.
-use Prim.Native.Nat.{ℕ, ◌+◌}
-use mathlib.Core.Path.{ap, ◌∙◌}
-use mathlib.Core.Bool.{true}
-use mathlib.Core.List.{List}
-use Rattle.laws.specs.Bytes.{same}
-use Rattle.setting_texts.specs.Names.{name_of}
-use Rattle.setting_words.specs.Names.{named_by}
-use Rattle.setting_words.specs.Rows.{meets}
-use Rattle.setting_words.proofs.Rules.{name_row_lem}
-use Rattle.setting_words.proofs.Search.{first_same}
+-- `named` asks the names in turn.
+use mathlib.Core.Path.{refl}
+use Rattle.std.proofs.Common.{rules, ◌∙◌}
+use Rattle.std.proofs.lemmas.Iterator.{YieldsList-from_range}
+use Rattle.std.proofs.lemmas.Iterator.Search.{position_from_yields_List}
+use Rattle.setting_words.proofs.Found.{is_name, first_name}
 use Rattle.setting_words.proofs.named.Goals as goal
 
 pub returns : goal.returns
-unfolding meets named_by
-returns c =
-    let s = c.args.s.now in
-    c.find.ensures ∙ first_same 23 0 (λ (k : ℕ). meets true (0 + k) s) (λ (k : ℕ). same (name_of k) s) (λ k h. ap (λ (t : List ℕ). same t s) (name_row_lem k h))
+returns c = position_from_yields_List (is_name c.args.s.now) _ _ _ c.position.ensures.ran (YieldsList-from_range 0 _ 23 refl refl) (λ x b q k. search rules) ∙ first_name c.args.s.now
