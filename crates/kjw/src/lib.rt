@@ -93,6 +93,7 @@ fn notice_of(s: State, before: KRecord, after: KRecord) -> Reply
 }
 
 // The notice of a volume. One that stays is told at once: to compare its digits both would be written first.
+#[tactic(auto, using(laws::proofs::Lists::same_self), unfolding(crate::specs::Replies::noticed, kjw_values::specs::Values::value_of))]
 fn volume_notice(before: KRecord, after: KRecord) -> Reply
     ensures { result ≡ noticed State.Volume before after }
 {
