@@ -1,13 +1,13 @@
 -- What a panel is called by says its family; a panel of another family than W has no pair and is not called.
 use Prim.Native.Nat.{ℕ, zero, suc, ◌+◌, ◌-◌, ◌<◌, ◌≤◌}
 use mathlib.Core.Path.{◌≡◌, refl, sym, ap, ◌∙◌}
-use mathlib.Core.Bool.{Bool, true, false, cond}
+use mathlib.Core.Bool.{Bool, true, false, cond, ◌&&◌}
 use mathlib.Core.List.{List, [], ◌∷◌, map}
 use native.Mathlib.Omega.{arith}
 use lib.Dec.{eqb}
 use lib.ListN.{length, get_or, drop, length-map, get_or-map}
 use borrow.Author.Tests.{ne_eqb, eqb-true, le-leb}
-use Rattle.laws.proofs.Lists.{from, behind}
+use Rattle.std.specs.Cmp.{nat_eq_equiv}
 use Rattle.terms.specs.declared.GroupId.{GroupId}
 use Rattle.terms.specs.declared.UnitId.{UnitId}
 use Rattle.panels.specs.Records.{family_w, family_k}
@@ -27,28 +27,19 @@ other f x y p n = rw (ne_eqb p.family family_w n) (go (eqb p.family family_k))
     go true = y
     go false = x
 
-pub pair_other : (p : Ids) (g : GroupId) (u : UnitId) → (p.family ≡ family_w → ⊥) → is_pair g u (id_name p) ≡ false
-unfolding is_pair
-pair_other p g u n = other (is_pair g u) refl refl p n
-
 pub call_other : (p : Ids) (m : List ℕ) → (p.family ≡ family_w → ⊥) → is_called m (id_name p) ≡ false
 unfolding is_called
 call_other p m n = other (is_called m) refl refl p n
 
--- the names from place i on: the one there, then those from i + 1 on
-pub names_from : (ids : List Ids) (i : ℕ) → i < length ids → drop i (map id_name ids) ≡ id_name (get_or ids i no_ids) ∷ drop (i + 1) (map id_name ids)
-names_from ids i h =
-    from (map id_name ids) i (id_name no_ids) (rw (length-map ids id_name) h)
-    ∙ ap (λ (x : Name). x ∷ drop (i + 1) (map id_name ids)) (get_or-map id_name ids i no_ids)
-
-pub names_behind : (ids : List Ids) (i : ℕ) → length ids ≤ i → drop i (map id_name ids) ≡ []
-names_behind ids i h = behind (map id_name ids) i (rw (length-map ids id_name) h)
-
--- behind the last place there is no panel
-pub past_end_lem : (ids : List Ids) (i : ℕ) → length ids ≤ i → get_or ids i no_ids ≡ no_ids
-past_end_lem [] i h = refl
-past_end_lem (x ∷ ids) zero h = absurd (omega arith)
-past_end_lem (x ∷ ids) (suc i) h = past_end_lem ids i (omega arith)
+-- a panel has the pair where it is called as a W panel with that pair
+pub pair_is : (p : Ids) (g : GroupId) (u : UnitId) → (eqb p.family family_w && (eqb p.group.0 g.0 && eqb p.unit.0 u.0)) ≡ is_pair g u (id_name p)
+unfolding id_name is_pair
+pair_is p g u = go (eqb p.family family_w) (eqb p.family family_k)
+  where
+    go : (a c : Bool) → (a && (eqb p.group.0 g.0 && eqb p.unit.0 u.0)) ≡ is_pair g u (cond a (a_w p.group p.unit) (cond c a_k nobody))
+    go true c = rw (nat_eq_equiv.symm p.group.0 g.0, nat_eq_equiv.symm p.unit.0 u.0)
+    go false true = refl
+    go false false = refl
 
 -- the family, read off the name
 family_w_lem : (p : Ids) → is_w (id_name p) ≡ eqb p.family family_w
@@ -76,7 +67,7 @@ family_is Kjw p = family_k_lem p
 family_is Tcp p = family_w_lem p
 
 -- no panel is of no family
-nobody_of : (line : Line) → is_of line nobody ≡ false
+pub nobody_of : (line : Line) → is_of line nobody ≡ false
 nobody_of Rs232c = refl
 nobody_of Kjw = refl
 nobody_of Tcp = refl
@@ -96,3 +87,10 @@ on_link_lem line ids zero = nobody_of line ∙ sym (no_family line)
 on_link_lem line ids (suc i) =
     let one : suc i - 1 ≡ i = omega arith in
     rw (le-leb 1 (suc i) (omega arith), one) (ap (is_of line) (named ids i) ∙ family_is line (get_or ids i no_ids))
+
+-- the panel on a link stands at the place before it
+pub on_place : (line : Line) (ids : List Ids) (l i : ℕ) (p : Ids) → suc i ≡ l → p ≡ get_or ids i no_ids → is_of line (on_link (map id_name ids) l) ≡ eqb p.family (family_by line)
+unfolding family_on
+on_place line ids l i p e q =
+    let one : suc i - 1 ≡ i = omega arith in
+    rw (← e) (on_link_lem line ids (suc i) ∙ rw (le-leb 1 (suc i) (omega arith), one, q))

@@ -11,12 +11,11 @@ use Rattle.steps.specs.Messages.{Name, on_link}
 use Rattle.steps.proofs.Door.{nobody_shut}
 use Rattle.addresses.specs.Doors.{is_of, target_by, opened}
 use Rattle.addresses.specs.declared.Line.{Line}
-use Rattle.addresses.specs.declared.Door.{Door}
-use Rattle.addresses.specs.declared.Door.TheVariants.{Shut, At}
+use Rattle.std.specs.Prelude.{Result, Ok, Err}
 
-abbrev Refusing : Door → Type 0
-Refusing (Shut a) = eqb (number_of a) 0 ≡ false
-Refusing (At i) = Unit {0}
+abbrev Refusing : Result ℕ Answer → Type 0
+Refusing (Err a) = eqb (number_of a) 0 ≡ false
+Refusing (Ok i) = Unit {0}
 
 refusing : (line : Line) (ns : List Name) (l : ℕ) (m : List ℕ) (room : ℕ) → Refusing (opened line ns l m room)
 unfolding opened
@@ -25,5 +24,5 @@ refusing line ns l m room =
     (λ e. choose Refusing (is_of line (on_link ns l)) _ _
     (λ f. choose Refusing (eqb (target_by line ns l m) 0) _ _ (λ g. nobody_shut m) (λ g. tt)) (λ f. refl))
 
-pub shut_undone : (line : Line) (ns : List Name) (l : ℕ) (m : List ℕ) (room : ℕ) (a : Answer) → opened line ns l m room ≡ Shut a → eqb (number_of a) 0 ≡ false
+pub shut_undone : (line : Line) (ns : List Name) (l : ℕ) (m : List ℕ) (room : ℕ) (a : Answer) → opened line ns l m room ≡ Err a → eqb (number_of a) 0 ≡ false
 shut_undone line ns l m room a e = subst Refusing e (refusing line ns l m room)

@@ -1,6 +1,7 @@
 -- For the contracts of the code alone: the door of the box as it is read off what the panels are called by. That it is the step's door
 -- is proved in ways_in.
-use Rattle.std.specs.Prelude.{ℕ, ◌-◌, Bool, cond, List, eqb, leb, ltb, get_or}
+use Rattle.std.specs.Prelude.{ℕ, suc, ◌-◌, Bool, cond, Option, Some, None, Result, Ok, Err, List, eqb, leb, ltb, get_or}
+use Rattle.terms.specs.declared.Answer.{Answer}
 use Rattle.terms.specs.declared.Answer.TheVariants.{AreaTooSmall, NoSuchPanel}
 use Rattle.panels.specs.Records.{family_w, family_k}
 use Rattle.box_rules.specs.Pairs.{no_ids}
@@ -10,8 +11,6 @@ use Rattle.steps.specs.Addressing.{by_tcp}
 use Rattle.steps.specs.Step.{to_nobody}
 use Rattle.addresses.specs.declared.Line.{Line}
 use Rattle.addresses.specs.declared.Line.TheVariants.{Rs232c, Kjw, Tcp}
-use Rattle.addresses.specs.declared.Door.{Door}
-use Rattle.addresses.specs.declared.Door.TheVariants.{Shut, At}
 
 -- the name of the panel that is called so
 unfoldable pub id_name : Ids → Name
@@ -38,11 +37,17 @@ target_by Rs232c ns l m = l
 target_by Kjw ns l m = l
 target_by Tcp ns l m = by_tcp ns l m
 
-abbrev pub comes_to : ℕ → List ℕ → Door
-comes_to n m = cond (eqb n 0) (Shut (to_nobody m)) (At (n - 1))
+-- "numbered from 1": the number of the panel at a place, 0 for nobody
+abbrev pub numbered : Option ℕ → ℕ
+numbered None = 0
+numbered (Some i) = suc i
 
-unfoldable pub opened : Line → List Name → ℕ → List ℕ → ℕ → Door
+-- the door is open to the panel at a place, or shut with an answer
+abbrev pub comes_to : ℕ → List ℕ → Result ℕ Answer
+comes_to n m = cond (eqb n 0) (Err (to_nobody m)) (Ok (n - 1))
+
+unfoldable pub opened : Line → List Name → ℕ → List ℕ → ℕ → Result ℕ Answer
 opened line ns l m room =
-    cond (ltb room 512) (Shut AreaTooSmall)
+    cond (ltb room 512) (Err AreaTooSmall)
     (cond (is_of line (on_link ns l)) (comes_to (target_by line ns l m) m)
-    (Shut NoSuchPanel))
+    (Err NoSuchPanel))

@@ -1,47 +1,60 @@
 -- `door_of` asks the room, the family on the link, and who is addressed, in turn.
-use mathlib.Core.Path.{◌≡◌, sym, ◌∙◌}
-use mathlib.Core.Bool.{true, false}
-use mathlib.Core.List.{List, map}
-use borrow.Author.Tests.{lt-ltb, le-ltb, eq-eqb, ne_eqb}
-use borrow.Author.Rules.{rules}
-use native.Mathlib.Omega.{arith}
-use Prim.Native.Nat.{ℕ}
+use Rattle.std.proofs.Common.{◌≡◌, ℕ, zero, suc, ◌+◌, ◌-◌, ◌<◌, Bool, true, false, cond, List, map, refl, sym, ap, ◌∙◌, rules, arith, Option, Some, None, Err}
+use borrow.Author.Tests.{lt-ltb, le-ltb, ne_eqb}
+use Rattle.std.specs.Option.{ok_or}
 use Rattle.box_rules.specs.declared.Ids.{Ids}
-use Rattle.steps.specs.Messages.{on_link}
-use Rattle.addresses.specs.Doors.{id_name, family_on, family_by, is_of, opened}
+use Rattle.terms.specs.declared.Answer.TheVariants.{NoSuchPanel}
+use Rattle.laws.proofs.Conditions.{false_true}
+use Rattle.steps.specs.Messages.{Name, on_link}
+use Rattle.steps.specs.Step.{to_nobody}
+use Rattle.addresses.specs.Doors.{id_name, numbered, is_of, target_by, comes_to, opened}
 use Rattle.addresses.specs.declared.Line.{Line}
-use Rattle.addresses.proofs.Names.{on_link_lem}
+use Rattle.addresses.proofs.Names.{nobody_of}
 use Rattle.addresses.proofs.door_of.Goals as goal
 
--- a panel of another family, and one of the family
-other : (line : Line) (ids : List Ids) (l f g : ℕ) → f ≡ family_on ids l → g ≡ family_by line → (f ≡ g → ⊥) → is_of line (on_link (map id_name ids) l) ≡ false
-other line ids l f g e h n = on_link_lem line ids l ∙ rw (← e, ← h, ne_eqb f g n)
+abbrev On : Line → List Name → ℕ → Option ℕ → Type 0
+On line ns l r = numbered r ≡ cond (is_of line (on_link ns l)) l 0
 
-same : (line : Line) (ids : List Ids) (l f g : ℕ) → f ≡ family_on ids l → g ≡ family_by line → f ≡ g → is_of line (on_link (map id_name ids) l) ≡ true
-same line ids l f g e h q = on_link_lem line ids l ∙ rw (← e, ← h, eq-eqb f g q)
+-- a panel of the family is on the link, or none is
+nobody_on : (line : Line) (ns : List Name) (l : ℕ) → On line ns l None → is_of line (on_link ns l) ≡ false
+nobody_on line ns zero e = nobody_of line
+nobody_on line ns (suc i) e = go (is_of line (on_link ns (suc i))) e
+  where
+    go : (b : Bool) → 0 ≡ cond b (suc i) 0 → b ≡ false
+    go true f = absurd (omega arith)
+    go false f = refl
+
+somebody_on : (line : Line) (ns : List Name) (l i : ℕ) → On line ns l (Some i) → (is_of line (on_link ns l) ≡ true) × (suc i ≡ l)
+somebody_on line ns l i e = go (is_of line (on_link ns l)) e
+  where
+    go : (b : Bool) → suc i ≡ cond b l 0 → (b ≡ true) × (suc i ≡ l)
+    go true f = (refl, f)
+    go false f = absurd (omega arith)
+
+comes : (r : Option ℕ) (n : ℕ) (m : List ℕ) → numbered r ≡ n → ok_or r (to_nobody m) ≡ comes_to n m
+comes None n m e = rw (← e) refl
+comes (Some i) n m e =
+    let z : suc i ≡ 0 → ⊥ = λ f. omega arith in
+    let one : suc i - 1 ≡ i = omega arith in
+    rw (← e) (sym (rw (ne_eqb (suc i) 0 z, one)))
 
 pub returns-then-room-lt512 : goal.returns-then-room-lt512
 unfolding opened
 returns-then-room-lt512 c = (sym (rw (lt-ltb _ _ c.if-room-lt512.true)), search rules)
 
-pub returns-then-family_on-family_by : goal.returns-then-family_on-family_by
+pub returns-in-None : goal.returns-in-None
 unfolding opened
-returns-then-family_on-family_by c =
+returns-in-None c =
     let a = c.args in
-    let o = other a.line a.ids a.link c.family_on.result c.family_by.result c.family_on.ensures c.family_by.ensures c.if-family_on-family_by.true in
-    (sym (rw (le-ltb _ _ c.if-room-lt512.false, o)), search rules)
+    (sym (rw (le-ltb _ _ c.if-room-lt512.false, nobody_on a.line (map id_name a.ids) a.link c.in-None.ensures)), search rules)
 
-pub returns-then-number-eq0 : goal.returns-then-number-eq0
+pub returns-in-Some : goal.returns-in-Some
 unfolding opened
-returns-then-number-eq0 c =
+returns-in-Some c =
     let a = c.args in
-    let s = same a.line a.ids a.link c.family_on.result c.family_by.result c.family_on.ensures c.family_by.ensures c.if-family_on-family_by.false in
-    let room = le-ltb _ _ c.if-room-lt512.false in
-    (sym (rw (room, s, ← c.target_by-number.ensures, eq-eqb _ _ c.if-number-eq0.true, ← c.to_nobody.ensures)), search rules)
-
-pub returns : goal.returns
-unfolding opened
-returns c =
-    let a = c.args in
-    let s = same a.line a.ids a.link c.family_on.result c.family_by.result c.family_on.ensures c.family_by.ensures c.if-family_on-family_by.false in
-    (sym (rw (le-ltb _ _ c.if-room-lt512.false, s, ← c.target_by-number.ensures, ne_eqb c.target_by-number.result 0 (λ e. omega arith))), search rules)
+    let ns = map id_name a.ids in
+    let on = somebody_on a.line ns a.link c.in-Some.own c.in-Some.ensures in
+    let link : c.in-Some.own + 1 ≡ a.link = omega (arith, on.1) in
+    let asked = c.target_by.ensures ∙ ap (λ (n : ℕ). target_by a.line ns n a.m.now) link in
+    let given = c.ok_or.ensures.value ∙ ap (ok_or c.target_by.result) c.to_nobody.ensures in
+    (given ∙ comes c.target_by.result (target_by a.line ns a.link a.m.now) a.m.now asked ∙ sym (rw (le-ltb _ _ c.if-room-lt512.false, on.0)), search rules)
