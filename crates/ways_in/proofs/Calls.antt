@@ -5,6 +5,7 @@ use mathlib.Core.Path.{◌≡◌, refl, ap, ◌∙◌}
 use mathlib.Core.Bool.{Bool, true, false}
 use mathlib.Core.List.{List, [], ◌∷◌}
 use lib.ListN.{get_or}
+use Rattle.std.specs.Prelude.{Ok, Err}
 use Rattle.laws.specs.Runs.{each, first_each}
 use Rattle.laws.proofs.Runs.{each_same, first_called}
 use Rattle.terms.specs.declared.Answer.{Answer}
@@ -14,11 +15,10 @@ use Rattle.panels.specs.declared.Panel.{Panel}
 use Rattle.panels.specs.declared.DisplayBox.{DisplayBox}
 use Rattle.vmc.specs.Orders.{carried}
 use Rattle.vmc_asks.specs.declared.Order.{Order}
-use Rattle.sdcp_asks.specs.Asks.{cast_of}
+use Rattle.sdcp_asks.specs.Asks.{fault_answer, cast_of, Heard}
 use Rattle.sdcp.specs.Replies.{answer_of, turned}
-use Rattle.terms.specs.declared.Part.{Part}
-use Rattle.sdcp_asks.specs.declared.Heard.{Heard}
-use Rattle.sdcp_asks.specs.declared.Heard.TheVariants.{Refused, Broken, NotUnderstood, Understood}
+use Rattle.sdcp_asks.specs.declared.Fault.{Fault}
+use Rattle.sdcp_asks.specs.declared.Fault.TheVariants.{Refused, Broken, NotUnderstood}
 use Rattle.steps.specs.Messages.{udp, Name, nobody, name_of, names}
 use Rattle.steps.specs.Addressing.{is_called, addressed, any_called}
 use Rattle.steps.specs.Step.{with_w, with_panels, to_nobody, door, turn, nothing, passed, refused, step}
@@ -34,22 +34,17 @@ pub called : (b : DisplayBox) (m : List ℕ) → any_called m (names b) ≡ true
 unfolding step door
 called b m e = rw e
 
--- what was heard orders nothing
-pub data Idle : Heard → Type 0 where
-  refusing : (a : Answer) → Idle (Refused a)
-  broken : (p : Part) → Idle (Broken p)
-  strange : Idle NotUnderstood
-
-idle_turn : (m : List ℕ) (h : Heard) (p : Panel) → Idle h → with_w p (turned m h p.w).after ≡ p
+-- a fault leaves every panel as it is
+idle_turn : (m : List ℕ) (f : Fault) (p : Panel) → with_w p (turned m (Err f) p.w).after ≡ p
 unfolding turned
-idle_turn m _ p (refusing a) = refl
-idle_turn m _ p (broken x) = refl
-idle_turn m _ p strange = refl
+idle_turn m (Refused a) p = refl
+idle_turn m (Broken x) p = refl
+idle_turn m NotUnderstood p = refl
 
-pub idle : (b : DisplayBox) (m : List ℕ) (h : Heard) → any_called m (names b) ≡ true → cast_of m ≡ h → Idle h → step b (udp m) ≡ record { box = b; answer = answer_of h; back = nothing }
+pub idle : (b : DisplayBox) (m : List ℕ) (f : Fault) → any_called m (names b) ≡ true → cast_of m ≡ Err f → step b (udp m) ≡ record { box = b; answer = fault_answer f; back = nothing }
 unfolding turn
-idle b m h e q i =
-    let s : each (addressed (names b) (udp m)) (λ (p : Panel). (turn (udp m) p).after) b.panels ≡ b.panels = each_same (addressed (names b) (udp m)) (λ (p : Panel). (turn (udp m) p).after) b.panels (λ p. ap (λ (x : Heard). with_w p (turned m x p.w).after) q ∙ idle_turn m h p i) in
+idle b m f e q =
+    let s : each (addressed (names b) (udp m)) (λ (p : Panel). (turn (udp m) p).after) b.panels ≡ b.panels = each_same (addressed (names b) (udp m)) (λ (p : Panel). (turn (udp m) p).after) b.panels (λ p. ap (λ (x : Heard). with_w p (turned m x p.w).after) q ∙ idle_turn m f p) in
     called b m e
     ∙ ap (λ (ps : List Panel). record { box = with_panels b ps; answer = answer_of (cast_of m); back = nothing }) s
     ∙ ap (λ (x : Heard). record { box = b; answer = answer_of x; back = nothing }) q
@@ -60,7 +55,7 @@ same [] called f g e = refl
 same (p ∷ ps) called f g e = rw (e p, same ps (λ (i : ℕ). called (suc i)) f g e)
 
 -- an order: those of the first panels that are called carry it out
-pub obeyed : (b : DisplayBox) (m : List ℕ) (o : Order) → valid b ≡ true → any_called m (names b) ≡ true → cast_of m ≡ Understood o → step b (udp m) ≡ record { box = with_panels b (first_each (heeded m o) b.count b.panels); answer = Done; back = nothing }
+pub obeyed : (b : DisplayBox) (m : List ℕ) (o : Order) → valid b ≡ true → any_called m (names b) ≡ true → cast_of m ≡ Ok o → step b (udp m) ≡ record { box = with_panels b (first_each (heeded m o) b.count b.panels); answer = Done; back = nothing }
 unfolding turn turned addressed is_called heeded
 obeyed b m o v e q =
     let f : (p : Panel) → (turn (udp m) p).after ≡ with_w p (carried o p.w) = λ p. ap (λ (x : Heard). with_w p (turned m x p.w).after) q in

@@ -6,6 +6,7 @@ use mathlib.Core.List.{List, [], ◌∷◌, ◌++◌, map, map-append}
 use native.Mathlib.Omega.{arith}
 use lib.Dec.{eqb, leb, ltb}
 use lib.ListN.{length, get_or, take, replicate, length-map}
+use Rattle.std.specs.Prelude.{Result, Ok, Err}
 use borrow.Author.Tests.{ltb-true, ltb-false, le-ltb, eqb-true, eqb-false, ne_eqb, leb-true}
 use Rattle.laws.specs.Lists.{every}
 use Rattle.laws.proofs.Conditions.{and_first, and_second, false_true}
@@ -16,9 +17,8 @@ use Rattle.terms.specs.declared.UnitId.{UnitId}
 use Rattle.panels.specs.Valid.{ok_panel, distinct, in_use, valid}
 use Rattle.panels.specs.declared.Panel.{Panel}
 use Rattle.panels.specs.declared.DisplayBox.{DisplayBox}
-use Rattle.box_rules.specs.Pairs.{ids_of, no_ids, gathered, ids_in, judged}
+use Rattle.box_rules.specs.Pairs.{ids_of, no_ids, gathered, ids_in}
 use Rattle.box_rules.specs.declared.Ids.{Ids}
-use Rattle.box_rules.specs.declared.Judged.{Judged}
 use Rattle.steps.specs.Messages.{Message, Name, nobody, name_of, names, on_link}
 use Rattle.steps.specs.Addressing.{is_pair, pair_number, by_tcp, target, is_called, any_called}
 use Rattle.steps.specs.Step.{to_nobody, door, refused, step}
@@ -27,8 +27,6 @@ use Rattle.steps.proofs.Refusals.{too_small, no_such_panel}
 use Rattle.addresses.specs.Doors.{id_name, is_of, target_by, opened}
 use Rattle.addresses.specs.declared.Line.{Line}
 use Rattle.addresses.specs.declared.Line.TheVariants.{Rs232c, Kjw, Tcp}
-use Rattle.addresses.specs.declared.Door.{Door}
-use Rattle.addresses.specs.declared.Door.TheVariants.{Shut, At}
 use Rattle.ways_in.specs.Promise.{message_of}
 use Rattle.ways_in.proofs.Stores.{Lent, stored, one_turn, tcp_bound}
 
@@ -117,15 +115,15 @@ target_bound Rs232c ns l m e = (inside Rs232c ns l e).1
 target_bound Kjw ns l m e = (inside Kjw ns l e).1
 target_bound Tcp ns l m e = tcp_bound ns l m (inside Tcp ns l e).1
 
-pub at_bound : (line : Line) (ns : List Name) (l : ℕ) (m : List ℕ) (room i : ℕ) → opened line ns l m room ≡ At i → i < length ns
+pub at_bound : (line : Line) (ns : List Name) (l : ℕ) (m : List ℕ) (room i : ℕ) → opened line ns l m room ≡ Ok i → i < length ns
 unfolding opened
 at_bound line ns l m room i e = go (ltb room 512) (is_of line (on_link ns l)) refl (eqb (target_by line ns l m) 0) refl e
   where
-    number : Door → ℕ
-    number (Shut a) = 0
-    number (At j) = suc j
+    number : Result ℕ Answer → ℕ
+    number (Err a) = 0
+    number (Ok j) = suc j
 
-    go : (x y : Bool) → is_of line (on_link ns l) ≡ y → (z : Bool) → eqb (target_by line ns l m) 0 ≡ z → cond x (Shut AreaTooSmall) (cond y (cond z (Shut (to_nobody m)) (At (target_by line ns l m - 1))) (Shut NoSuchPanel)) ≡ At i → i < length ns
+    go : (x y : Bool) → is_of line (on_link ns l) ≡ y → (z : Bool) → eqb (target_by line ns l m) 0 ≡ z → cond x (Err AreaTooSmall) (cond y (cond z (Err (to_nobody m)) (Ok (target_by line ns l m - 1))) (Err NoSuchPanel)) ≡ Ok i → i < length ns
     go true y ey z ez e = absurd (let q : ◌≡◌ {A = ℕ} 0 (suc i) = ap number e in omega arith)
     go false false ey z ez e = absurd (let q : ◌≡◌ {A = ℕ} 0 (suc i) = ap number e in omega arith)
     go false true ey true ez e = absurd (let q : ◌≡◌ {A = ℕ} 0 (suc i) = ap number e in omega arith)
@@ -170,11 +168,11 @@ done Rs232c b l m area h y n = rw (le-ltb (length area) 512 h, y)
 done Kjw b l m area h y n = rw (le-ltb (length area) 512 h, y)
 done Tcp b l m area h y n = rw (le-ltb (length area) 512 h, y, ne_eqb (by_tcp (names b) l m) 0 n)
 
-pub data AtDoor (b : DisplayBox) (m : Message) : Door → Type 0 where
-  turned_away : (a : Answer) → step b m ≡ refused b m a → AtDoor b m (Shut a)
-  let_in : (i : ℕ) → step b m ≡ stored b m i → AtDoor b m (At i)
+pub data AtDoor (b : DisplayBox) (m : Message) : Result ℕ Answer → Type 0 where
+  turned_away : (a : Answer) → step b m ≡ refused b m a → AtDoor b m (Err a)
+  let_in : (i : ℕ) → step b m ≡ stored b m i → AtDoor b m (Ok i)
 
-inner : (line : Line) (b : DisplayBox) (l : ℕ) (m area : List ℕ) (d : Door) → length (names b) ≤ length b.panels → (x : Bool) → ltb (length area) 512 ≡ x → (y : Bool) → is_of line (on_link (names b) l) ≡ y → (z : Bool) → eqb (target_by line (names b) l m) 0 ≡ z → cond x (Shut AreaTooSmall) (cond y (cond z (Shut (to_nobody m)) (At (target_by line (names b) l m - 1))) (Shut NoSuchPanel)) ≡ d → AtDoor b (message_of line l m area) d
+inner : (line : Line) (b : DisplayBox) (l : ℕ) (m area : List ℕ) (d : Result ℕ Answer) → length (names b) ≤ length b.panels → (x : Bool) → ltb (length area) 512 ≡ x → (y : Bool) → is_of line (on_link (names b) l) ≡ y → (z : Bool) → eqb (target_by line (names b) l m) 0 ≡ z → cond x (Err AreaTooSmall) (cond y (cond z (Err (to_nobody m)) (Ok (target_by line (names b) l m - 1))) (Err NoSuchPanel)) ≡ d → AtDoor b (message_of line l m area) d
 inner line b l m area d k true ex y ey z ez e = subst (AtDoor b (message_of line l m area)) e (turned_away AreaTooSmall (too_small b l area (message_of line l m area) (lends line l m area) (ltb-true (length area) 512 ex)))
 inner line b l m area d k false ex false ey z ez e = subst (AtDoor b (message_of line l m area)) e (turned_away NoSuchPanel (no_such_panel b l area (message_of line l m area) (lends line l m area) (ltb-false (length area) 512 ex) (speaks_to line l m area (on_link (names b) l) ∙ ey)))
 inner line b l m area d k false ex true ey true ez e = subst (AtDoor b (message_of line l m area)) e (turned_away (to_nobody m) (to_nobody_lem line b l m area (ltb-false (length area) 512 ex) ey (eqb-true (target_by line (names b) l m) 0 ez)))
@@ -198,24 +196,24 @@ names_fit b = go (valid b)
     go true = taken b.count b.panels
     go false = omega arith
 
-pub at_door : (line : Line) (b : DisplayBox) (l : ℕ) (m area : List ℕ) (d : Door) → opened line (names b) l m (length area) ≡ d → AtDoor b (message_of line l m area) d
+pub at_door : (line : Line) (b : DisplayBox) (l : ℕ) (m area : List ℕ) (d : Result ℕ Answer) → opened line (names b) l m (length area) ≡ d → AtDoor b (message_of line l m area) d
 unfolding opened
 at_door line b l m area d e = inner line b l m area d (names_fit b) (ltb (length area) 512) refl (is_of line (on_link (names b) l)) refl (eqb (target_by line (names b) l m) 0) refl e
 
 -- ---- as the code reads it
 
-names_read : (b : DisplayBox) (j : Judged) → j ≡ judged b → map id_name j.ids ≡ names b ++ replicate (padded b).0 nobody
-names_read b j e = ap (λ (x : Judged). map id_name x.ids) e ∙ (padded b).1
+names_read : (b : DisplayBox) (ids : List Ids) → ids ≡ ids_in b → map id_name ids ≡ names b ++ replicate (padded b).0 nobody
+names_read b ids e = ap (map id_name) e ∙ (padded b).1
 
-pub read : (line : Line) (b : DisplayBox) (l : ℕ) (m area : List ℕ) (j : Judged) (d : Door) → j ≡ judged b → opened line (map id_name j.ids) l m (length area) ≡ d → AtDoor b (message_of line l m area) d
-read line b l m area j d e o =
+pub read : (line : Line) (b : DisplayBox) (l : ℕ) (m area : List ℕ) (ids : List Ids) (d : Result ℕ Answer) → ids ≡ ids_in b → opened line (map id_name ids) l m (length area) ≡ d → AtDoor b (message_of line l m area) d
+read line b l m area ids d e o =
     at_door line b l m area d
-    (sym (opened_padded line (names b) (padded b).0 l m (length area)) ∙ ap (λ (ns : List Name). opened line ns l m (length area)) (sym (names_read b j e)) ∙ o)
+    (sym (opened_padded line (names b) (padded b).0 l m (length area)) ∙ ap (λ (ns : List Name). opened line ns l m (length area)) (sym (names_read b ids e)) ∙ o)
 
-pub called_read : (b : DisplayBox) (m : List ℕ) (j : Judged) → j ≡ judged b → any_called m (map id_name j.ids) ≡ any_called m (names b)
-called_read b m j e = ap (any_called m) (names_read b j e) ∙ any_padded m (names b) (padded b).0
+pub called_read : (b : DisplayBox) (m : List ℕ) (ids : List Ids) → ids ≡ ids_in b → any_called m (map id_name ids) ≡ any_called m (names b)
+called_read b m ids e = ap (any_called m) (names_read b ids e) ∙ any_padded m (names b) (padded b).0
 
-pub place_read : (line : Line) (ids : List Ids) (l : ℕ) (m : List ℕ) (room i : ℕ) → length ids ≡ 8 → opened line (map id_name ids) l m room ≡ At i → i < 8
+pub place_read : (line : Line) (ids : List Ids) (l : ℕ) (m : List ℕ) (room i : ℕ) → length ids ≡ 8 → opened line (map id_name ids) l m room ≡ Ok i → i < 8
 place_read line ids l m room i n o = let h = at_bound line (map id_name ids) l m room i o in let k = length-map ids id_name in omega (arith, h, k, n)
 
 -- a packet that calls somebody has come to a box that keeps the rules

@@ -12,6 +12,7 @@ use Rattle.laws.proofs.Runs.{each_one}
 use Rattle.terms.specs.Answers.{number_of}
 use Rattle.terms.specs.declared.Answer.{Answer}
 use Rattle.terms.specs.declared.Answer.TheVariants.{Done}
+use Rattle.terms.specs.declared.Outcome.{Outcome as OutcomeOf}
 use Rattle.turns.specs.Turns.{Turn}
 use Rattle.panels.specs.Records.{past_end}
 use Rattle.panels.specs.declared.Panel.{Panel}
@@ -24,7 +25,6 @@ use Rattle.addresses.specs.declared.Line.{Line}
 use Rattle.addresses.specs.declared.Line.TheVariants.{Rs232c, Kjw, Tcp}
 use Rattle.ways_in.specs.Promise.{Steps, message_of}
 use Rattle.ways_in.specs.Turns.{Acts, resting}
-use Rattle.ways_in.specs.declared.Acted.{Acted}
 use Rattle.ways_in.specs.declared.Outcome.{Outcome}
 
 -- the promise, from the step's outcome
@@ -105,7 +105,7 @@ lent_back Kjw l m area reply = refl
 lent_back Tcp l m area reply = refl
 
 -- the panel's turn, stored at its place
-pub acted : (line : Line) (b : DisplayBox) (l : ℕ) (m area : List ℕ) (i : ℕ) (p : Panel) (t : Acted) (area' : List ℕ) (r : Outcome) → step b (message_of line l m area) ≡ stored b (message_of line l m area) i → p ≡ panel_at i b → Acts (turn (message_of line 0 m area) p) area t area' → r.after ≡ with_panels b (set b.panels i t.after) → r.answer ≡ t.answer → r.len ≡ t.len → r.done ≡ eqb (number_of t.answer) 0 → Steps b (message_of line l m area) r area'
+pub acted : (line : Line) (b : DisplayBox) (l : ℕ) (m area : List ℕ) (i : ℕ) (p : Panel) (t : OutcomeOf Panel) (area' : List ℕ) (r : Outcome) → step b (message_of line l m area) ≡ stored b (message_of line l m area) i → p ≡ panel_at i b → Acts (turn (message_of line 0 m area) p) area t area' → r.after ≡ with_panels b (set b.panels i t.after) → r.answer ≡ t.answer → r.len ≡ t.len → r.done ≡ eqb (number_of t.answer) 0 → Steps b (message_of line l m area) r area'
 acted line b l m area i p t area' r e q a x y z d =
     let msg = message_of line l m area in
     let u : turn (message_of line 0 m area) p ≡ turn msg (panel_at i b) = ap (turn (message_of line 0 m area)) q ∙ turn_same line l m area (panel_at i b) in

@@ -7,14 +7,15 @@ ghost use Rattle.terms.specs.Answers.{number_of};
 ghost use Rattle.steps.specs.Messages as messages;
 ghost use Rattle.steps.specs.Step.{with_w, with_panels, panel_at, turn};
 ghost use Rattle.vmc.specs.Orders.{carried};
+ghost use Rattle.box_rules.specs.Pairs.{ids_in};
 ghost use Rattle.ways_in.specs.Promise.{Steps, message_of, outcome_of, came_by};
 ghost use Rattle.ways_in.specs.Turns.{Acts, resting, heeded};
 
-use addresses::{Door, Line, any_called, door_of, is_called, to_nobody};
-use box_rules::{called_by, judge};
+use addresses::{Line, any_called, door_of, is_called, to_nobody};
+use box_rules::{Ids, NO_IDS, called_by, judge};
 use panels::{DisplayBox, Panel};
 use sdcp::take_packet;
-use sdcp_asks::{Heard, hear_cast};
+use sdcp_asks::hear_cast;
 use terms::Answer;
 use vmc::obey;
 use vmc_asks::Order;
@@ -26,7 +27,8 @@ pub enum Way {
     Udp,
 }
 
-// What a message did: the box after it, the answer, the reply's length, and whether the answer is 0: a refusal has nothing to store.
+// What a message did: the box after it, the answer, the reply's length, and whether the answer is 0: a refusal has nothing to store,
+// and where it is made that is known without asking.
 #[derive(Clone, Copy)]
 pub struct Outcome {
     pub after: DisplayBox,
@@ -35,30 +37,11 @@ pub struct Outcome {
     pub done: bool,
 }
 
-// What a message did to its panel.
-#[derive(Clone, Copy)]
-struct Acted {
-    after: Panel,
-    answer: Answer,
-    len: usize,
-}
-
 // The answer is 0. It is asked which answer it is, and not for its number: so nothing stands between a record and the outcome that it goes into.
 fn is_done(a: Answer) -> bool
     ensures { result ≡ eqb (number_of a) 0 }
 {
-    match a {
-        Answer::Done => true,
-        Answer::AreaTooSmall => false,
-        Answer::NoSuchPanel => false,
-        Answer::WrongLength => false,
-        Answer::NotForUs => false,
-        Answer::EnvelopeWrong => false,
-        Answer::NotUnderstood => false,
-        Answer::BadConfiguration => false,
-        Answer::StatusByBroadcast => false,
-        Answer::PartWrong(_) => false,
-    }
+    matches!(a, Answer::Done)
 }
 
 // A refusal leaves the box as it was, and there is no reply. That it is not done is written out: so a caller that stores what was
@@ -75,13 +58,20 @@ fn refused(b: DisplayBox, answer: Answer) -> Outcome
     }
 }
 
+// What the panels of the box are called by; those of a box that breaks the rules by nothing.
+#[tactic(auto, unfolding(box_rules::specs::Pairs::ids_in))]
+fn ids_of(b: DisplayBox) -> [Ids; 8]
+    ensures { result ≡ ids_in b }
+{
+    judge(b).unwrap_or(NO_IDS)
+}
+
 // The panel at place i: here a panel is copied out of a box.
 fn panel_at(b: DisplayBox, i: usize) -> Panel
     requires { i < 8 }
     ensures { result ≡ panel_at i b }
 {
-    let ps = b.panels;
-    ps[i]
+    b.panels[i]
 }
 
 // The box with another panel at place i: here a panel is copied into a box.
@@ -89,75 +79,42 @@ fn with_panel(b: DisplayBox, i: usize, p: Panel) -> DisplayBox
     requires { i < 8 }
     ensures { result ≡ with_panels b (set b.panels i p) }
 {
-    let mut ps = b.panels;
-    ps[i] = p;
-    let mut x = b;
-    x.panels = ps;
-    x
+    let mut panels = b.panels;
+    panels[i] = p;
+    DisplayBox { panels, ..b }
 }
 
-// A frame on the RS-232C port of a panel.
-fn act_rs232c(p: Panel, m: &[u8], area: &mut [u8]) -> Acted
-    ensures { Acts (turn (messages.rs232c 0 m.now area.old) p) area.old result area.new }
+// What a message did to the record of its protocol is what it did to the panel that has the record.
+fn on_panel<R, F: FnOnce(R) -> Panel>(t: terms::Outcome<R>, panel: F) -> terms::Outcome<Panel>
+    requires { F.pre panel t.after }
+    ensures after { F.post panel t.after result.after }
+    ensures answer { result.answer ≡ t.answer }
+    ensures len { result.len ≡ t.len }
 {
-    let w = p.w;
-    let t = rs232c::take_frame(w, m, area);
-    let next = t.after;
-    let answer = t.answer;
-    let len = t.len;
-    let mut q = p;
-    q.w = next;
-    Acted {
-        after: q,
-        answer,
-        len,
+    terms::Outcome {
+        after: panel(t.after),
+        answer: t.answer,
+        len: t.len,
     }
 }
 
-// A frame on the KJW link of a panel.
-fn act_kjw(p: Panel, m: &[u8], area: &mut [u8]) -> Acted
-    ensures { Acts (turn (messages.kjw 0 m.now area.old) p) area.old result area.new }
-{
-    let k = p.k;
-    let t = kjw::take_frame(k, m, area);
-    let next = t.after;
-    let answer = t.answer;
-    let len = t.len;
-    let mut q = p;
-    q.k = next;
-    Acted {
-        after: q,
-        answer,
-        len,
-    }
-}
-
-// A packet by TCP to a panel.
-fn act_tcp(p: Panel, m: &[u8], area: &mut [u8]) -> Acted
-    ensures { Acts (turn (messages.tcp 0 m.now area.old) p) area.old result area.new }
-{
-    let w = p.w;
-    let t = take_packet(w, m, area);
-    let next = t.after;
-    let answer = t.answer;
-    let len = t.len;
-    let mut q = p;
-    q.w = next;
-    Acted {
-        after: q,
-        answer,
-        len,
-    }
-}
-
-// A panel's turn.
-fn act(line: Line, p: Panel, m: &[u8], area: &mut [u8]) -> Acted
+// A panel's turn: a frame on its RS-232C port or its KJW link, or a packet by TCP.
+fn act(line: Line, p: Panel, m: &[u8], area: &mut [u8]) -> terms::Outcome<Panel>
     ensures { Acts (turn (message_of line 0 m.now area.old) p) area.old result area.new }
 {
     match line {
-        Line::Rs232c => act_rs232c(p, m, area),
-        Line::Kjw => act_kjw(p, m, area),
-        Line::Tcp => act_tcp(p, m, area),
+        Line::Rs232c => {
+            let t = rs232c::take_frame(p.w, m, area);
+            on_panel(t, |w| Panel { w, ..p })
+        }
+        Line::Kjw => {
+            let t = kjw::take_frame(p.k, m, area);
+            on_panel(t, |k| Panel { k, ..p })
+        }
+        Line::Tcp => {
+            let t = take_packet(p.w, m, area);
+            on_panel(t, |w| Panel { w, ..p })
+        }
     }
 }
 
@@ -165,22 +122,18 @@ fn act(line: Line, p: Panel, m: &[u8], area: &mut [u8]) -> Acted
 fn take_linked(b: DisplayBox, line: Line, link: usize, m: &[u8], area: &mut [u8]) -> Outcome
     ensures { Steps b (message_of line link m.now area.old) result area.new }
 {
-    let j = judge(b);
-    let ids = j.ids;
+    let ids = ids_of(b);
     match door_of(line, ids, link, m, area.len()) {
-        Door::Shut(answer) => refused(b, answer),
-        Door::At(i) => {
+        Err(answer) => refused(b, answer),
+        Ok(i) => {
             let p = panel_at(b, i);
             let t = act(line, p, m, area);
-            let q = t.after;
-            let answer = t.answer;
-            let len = t.len;
-            let after = with_panel(b, i, q);
+            let after = with_panel(b, i, t.after);
             Outcome {
                 after,
-                answer,
-                len,
-                done: is_done(answer),
+                answer: t.answer,
+                len: t.len,
+                done: is_done(t.answer),
             }
         }
     }
@@ -190,11 +143,10 @@ fn take_linked(b: DisplayBox, line: Line, link: usize, m: &[u8], area: &mut [u8]
 fn obeyed(o: Order, p: Panel) -> Panel
     ensures { result ≡ with_w p (carried o p.w) }
 {
-    let w = p.w;
-    let next = obey(w, o);
-    let mut q = p;
-    q.w = next;
-    q
+    Panel {
+        w: obey(p.w, o),
+        ..p
+    }
 }
 
 // The order carried out on each of the first n panels that is called.
@@ -203,14 +155,11 @@ fn obey_all(m: &[u8], o: Order, ps: [Panel; 8], n: usize) -> [Panel; 8]
     ensures { result ≡ first_each (heeded m.now o) n ps }
 {
     let mut qs = ps;
-    let mut i = 0;
-    while i < n {
+    for i in 0..n {
         let p = qs[i];
         if is_called(m, called_by(p)) {
-            let q = obeyed(o, p);
-            qs[i] = q;
+            qs[i] = obeyed(o, p);
         }
-        i += 1;
     }
     qs
 }
@@ -219,22 +168,16 @@ fn obey_all(m: &[u8], o: Order, ps: [Panel; 8], n: usize) -> [Panel; 8]
 fn take_udp(b: DisplayBox, m: &[u8]) -> Outcome
     ensures { Steps b (messages.udp m.now) result [] }
 {
-    let j = judge(b);
-    let ids = j.ids;
+    let ids = ids_of(b);
     if !any_called(m, ids) {
         return refused(b, to_nobody(m));
     }
     match hear_cast(m) {
-        Heard::Refused(answer) => refused(b, answer),
-        Heard::Broken(part) => refused(b, Answer::PartWrong(part)),
-        Heard::NotUnderstood => refused(b, Answer::NotUnderstood),
-        Heard::Understood(o) => {
-            let ps = b.panels;
-            let qs = obey_all(m, o, ps, b.count);
-            let mut x = b;
-            x.panels = qs;
+        Err(fault) => refused(b, Answer::from(fault)),
+        Ok(o) => {
+            let panels = obey_all(m, o, b.panels, b.count);
             Outcome {
-                after: x,
+                after: DisplayBox { panels, ..b },
                 answer: Answer::Done,
                 len: 0,
                 done: true,

@@ -42,22 +42,19 @@ loop-i-preserved c =
     let qs = c.loop-i.qs in
     let i = c.loop-i.i in
     let p = get_or qs i past_end in
-    let so_far : qs ≡ first_each f i a.ps = c.loop-i.invariant.1.1 in
+    let so_far : qs ≡ first_each f i a.ps = c.loop-i.invariant.1 in
     let asked : c.is_called.result ≡ is_called a.m.now (name_of p) =
     c.is_called.ensures ∙ ap (λ (x : Ids). is_called a.m.now (id_name x)) c.called_by.ensures ∙ ap (is_called a.m.now) (same_name p) in
     let same : p ≡ get_or a.ps i past_end = ap (λ (xs : List Panel). get_or xs i past_end) so_far ∙ first_next f i a.ps past_end in
-    let inside : i < length a.ps = omega (arith, c.loop-i.invariant.1.0) in (
-      omega arith,
-      (
-        c.loop-i.invariant.1.0,
-        elim c.if-is_called.branch [
-          | then-is_called w ↦
-              let turn : w.obeyed-q.result ≡ f (get_or a.ps i past_end) =
-              w.obeyed-q.ensures ∙ called a.m.now a.o p (sym asked ∙ w.if-is_called.true) ∙ ap f same in
-              w.qs-is ∙ rw (turn, so_far, add-one) (first_more f i a.ps past_end inside)
-          | else-is_called w ↦
-              let stays = ap f (sym same) ∙ spared a.m.now a.o p (sym asked ∙ w.if-is_called.false) ∙ same in
-              w.qs-is ∙ so_far ∙ rw add-one (first_skip f i a.ps past_end inside stays)
-        ],
-      ),
+    let inside : i < length a.ps = omega (arith, c.loop-i.invariant.0) in (
+      c.loop-i.invariant.0,
+      elim c.if-is_called.branch [
+        | then-is_called w ↦
+            let turn : w.obeyed.result ≡ f (get_or a.ps i past_end) =
+            w.obeyed.ensures ∙ called a.m.now a.o p (sym asked ∙ w.if-is_called.true) ∙ ap f same in
+            w.qs-is ∙ rw (turn, so_far, add-one) (first_more f i a.ps past_end inside)
+        | else-is_called w ↦
+            let stays = ap f (sym same) ∙ spared a.m.now a.o p (sym asked ∙ w.if-is_called.false) ∙ same in
+            w.qs-is ∙ so_far ∙ rw add-one (first_skip f i a.ps past_end inside stays)
+      ],
     )

@@ -4,6 +4,7 @@ use mathlib.Core.Bool.{Bool, true, false}
 use mathlib.Core.List.{List, [], map}
 use Prim.Native.Nat.{ℕ}
 use lib.Dec.{eqb}
+use Rattle.std.specs.Prelude.{Ok, Err}
 use Rattle.panels.specs.declared.Panel.{Panel}
 use Rattle.panels.specs.declared.DisplayBox.{DisplayBox}
 use Rattle.terms.specs.Answers.{number_of}
@@ -16,11 +17,15 @@ use Rattle.sdcp_asks.proofs.Refusals.{cast_undone}
 use Rattle.ways_in.specs.Promise.{Steps}
 use Rattle.ways_in.specs.Turns.{resting}
 use Rattle.ways_in.specs.declared.Outcome.{Outcome}
-use Rattle.ways_in.proofs.Calls.{uncalled, idle, refusing, broken, strange, obeyed}
+use Rattle.ways_in.proofs.Calls.{uncalled, idle, obeyed}
 use Rattle.ways_in.proofs.Doors.{valid_count, called_read, called_valid}
 use Rattle.ways_in.proofs.Stores.{steps, refuses}
-use Rattle.box_rules.specs.Pairs.{judged}
-use Rattle.box_rules.specs.declared.Judged.{Judged}
+use Rattle.box_rules.specs.Pairs.{ids_in}
+use Rattle.box_rules.specs.declared.Ids.{Ids}
+use Rattle.sdcp_asks.specs.Asks.{fault_answer, cast_of}
+use Rattle.sdcp_asks.specs.declared.Fault.{Fault}
+use Rattle.sdcp_asks.specs.declared.Fault.TheVariants.{Refused, Broken, NotUnderstood}
+use Rattle.terms.specs.declared.Part.TheVariants.{Request, Item, TooLong, NotMatching, Count, Checksum}
 use Rattle.addresses.specs.Doors.{id_name}
 use Rattle.ways_in.proofs.take_udp.Goals as goal
 
@@ -36,9 +41,20 @@ rests b m a r e f =
     e
     (ap (λ (x : Outcome). x.after) f) (ap (λ (x : Outcome). x.answer) f) (ap (λ (x : Outcome). x.len) f) (ap (λ (x : Outcome). x.done) f) refl
 
+-- a fault's answer is not 0
+fault_undone : (m : List ℕ) (f : Fault) → cast_of m ≡ Err f → eqb (number_of (fault_answer f)) 0 ≡ false
+fault_undone m (Refused a) e = cast_undone m a e
+fault_undone m (Broken Request) e = refl
+fault_undone m (Broken Item) e = refl
+fault_undone m (Broken TooLong) e = refl
+fault_undone m (Broken NotMatching) e = refl
+fault_undone m (Broken Count) e = refl
+fault_undone m (Broken (Checksum place)) e = refl
+fault_undone m NotUnderstood e = refl
+
 -- somebody is called, read off the IDs
-some : (b : DisplayBox) (m : List ℕ) (j : Judged) (y : Bool) → j ≡ judged b → y ≡ any_called m (map id_name j.ids) → y ≡ true → any_called m (names b) ≡ true
-some b m j y e g h = sym (called_read b m j e) ∙ sym g ∙ h
+some : (b : DisplayBox) (m : List ℕ) (ids : List Ids) (y : Bool) → ids ≡ ids_in b → y ≡ any_called m (map id_name ids) → y ≡ true → any_called m (names b) ≡ true
+some b m ids y e g h = sym (called_read b m ids e) ∙ sym g ∙ h
 
 pub refused-requires : goal.refused-requires
 refused-requires c =
@@ -48,53 +64,36 @@ refused-requires c =
 pub returns-then-not-any_called : goal.returns-then-not-any_called
 returns-then-not-any_called c =
     let a = c.args in
-    let j = c.judge-j in
+    let ids = c.ids_of-ids in
     let q = c.any_called in
     let n : any_called a.m.now (names a.b) ≡ false =
-    sym (called_read a.b a.m.now j.result j.ensures) ∙ sym q.ensures ∙ c.if-not-any_called.true in
+    sym (called_read a.b a.m.now ids.result ids.ensures) ∙ sym q.ensures ∙ c.if-not-any_called.true in
     refuses a.b (udp a.m.now) [] (to_nobody a.m.now) _ (uncalled a.b a.m.now n) (c.refused.ensures ∙ rw c.to_nobody.ensures) refl
 
-pub refused-requires-in-Refused : goal.refused-requires-in-Refused
-refused-requires-in-Refused c =
-    let a = c.args in
-    cast_undone a.m.now _ (sym c.hear_cast.ensures ∙ c.in-Refused.is)
+pub refused-requires-in-Err : goal.refused-requires-in-Err
+refused-requires-in-Err c =
+    ap (λ (x : Answer). eqb (number_of x) 0) c.from.ensures ∙ fault_undone c.args.m.now c.in-Err.fault (sym c.in-Err.ensures)
 
-pub obey_all-qs-requires : goal.obey_all-qs-requires
-obey_all-qs-requires c =
+pub obey_all-panels-requires : goal.obey_all-panels-requires
+obey_all-panels-requires c =
     let a = c.args in
-    let j = c.judge-j in
+    let ids = c.ids_of-ids in
     let q = c.any_called in
-    valid_count a.b (called_valid a.b a.m.now (some a.b a.m.now j.result q.result j.ensures q.ensures c.if-not-any_called.false))
+    valid_count a.b (called_valid a.b a.m.now (some a.b a.m.now ids.result q.result ids.ensures q.ensures c.if-not-any_called.false))
 
-pub returns-in-Refused : goal.returns-in-Refused
-returns-in-Refused c =
+pub returns-in-Err : goal.returns-in-Err
+returns-in-Err c =
     let a = c.args in
-    let j = c.judge-j in
+    let ids = c.ids_of-ids in
     let q = c.any_called in
-    let n = some a.b a.m.now j.result q.result j.ensures q.ensures c.if-not-any_called.false in
-    rests a.b a.m.now _ _ (idle a.b a.m.now _ n (sym c.hear_cast.ensures ∙ c.in-Refused.is) (refusing c.in-Refused.answer)) c.refused-in-Refused.ensures
+    let n = some a.b a.m.now ids.result q.result ids.ensures q.ensures c.if-not-any_called.false in
+    rests a.b a.m.now _ _ (idle a.b a.m.now c.in-Err.fault n (sym c.in-Err.ensures)) (c.refused-in-Err.ensures ∙ ap (resting a.b) c.from.ensures)
 
-pub returns-in-Broken : goal.returns-in-Broken
-returns-in-Broken c =
+pub returns-in-Ok : goal.returns-in-Ok
+returns-in-Ok c =
     let a = c.args in
-    let j = c.judge-j in
+    let ids = c.ids_of-ids in
     let q = c.any_called in
-    let n = some a.b a.m.now j.result q.result j.ensures q.ensures c.if-not-any_called.false in
-    rests a.b a.m.now _ _ (idle a.b a.m.now _ n (sym c.hear_cast.ensures ∙ c.in-Broken.is) (broken c.in-Broken.part)) c.refused-in-Broken.ensures
-
-pub returns-in-NotUnderstood : goal.returns-in-NotUnderstood
-returns-in-NotUnderstood c =
-    let a = c.args in
-    let j = c.judge-j in
-    let q = c.any_called in
-    let n = some a.b a.m.now j.result q.result j.ensures q.ensures c.if-not-any_called.false in
-    rests a.b a.m.now _ _ (idle a.b a.m.now _ n (sym c.hear_cast.ensures ∙ c.in-NotUnderstood.is) strange) c.refused-in-NotUnderstood.ensures
-
-pub returns-in-Understood : goal.returns-in-Understood
-returns-in-Understood c =
-    let a = c.args in
-    let j = c.judge-j in
-    let q = c.any_called in
-    let n = some a.b a.m.now j.result q.result j.ensures q.ensures c.if-not-any_called.false in
-    let stepped = obeyed a.b a.m.now c.in-Understood.o (called_valid a.b a.m.now n) n (sym c.hear_cast.ensures ∙ c.in-Understood.is) in
-    steps a.b (udp a.m.now) _ [] _ stepped (ap (λ (ps : List Panel). with_panels a.b ps) c.obey_all-qs.ensures) refl refl refl refl
+    let n = some a.b a.m.now ids.result q.result ids.ensures q.ensures c.if-not-any_called.false in
+    let stepped = obeyed a.b a.m.now c.in-Ok.o (called_valid a.b a.m.now n) n (sym c.in-Ok.ensures) in
+    steps a.b (udp a.m.now) _ [] _ stepped (ap (λ (ps : List Panel). with_panels a.b ps) c.obey_all-panels.ensures) refl refl refl refl
