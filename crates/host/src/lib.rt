@@ -71,8 +71,7 @@ pub extern "C" fn box_take(
 pub extern "C" fn box_panel_at(b: &DisplayBox, link: usize, panel: &mut Panel)
     ensures { panel.new ≡ panel_behind b.now link }
 {
-    let p = panel_behind(*b, link);
-    *panel = p;
+    *panel = panel_behind(*b, link);
 }
 
 // What the host is told of a piece: how many of its bytes were taken, and the length of what is handed out, 0 for nothing. Numbers, for the
@@ -102,8 +101,7 @@ pub extern "C" fn box_receive(r: &mut Receiver, piece: &[u8], packet: &mut [u8; 
 pub extern "C" fn box_plain(buffer: &[u8], listing: &mut Listing) -> u8
     ensures { (listing.new ≡ plain buffer.now) × (result ≡ number_of Done) }
 {
-    let l = read_plain(buffer);
-    *listing = l;
+    *listing = read_plain(buffer);
     0
 }
 

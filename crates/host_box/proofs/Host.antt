@@ -26,9 +26,9 @@ use Rattle.steps.proofs.Refusals.{refused_leaves, udp_quiet, early_quiet, none_s
 use Rattle.host_box.specs.Called.{Called, in_numbers, no_way, way_of, called_by, called, numbers_of, panel_behind}
 use Rattle.addresses.specs.declared.Line.TheVariants.{Rs232c, Kjw, Tcp}
 use Rattle.ways_in.specs.Promise.{with_area, unanswered}
+use Rattle.ways_in.specs.declared.Way.{Way}
 use Rattle.ways_in.specs.declared.Way.TheVariants.{By, Udp}
-use Rattle.host_box.specs.declared.Entry.{Entry}
-use Rattle.host_box.specs.declared.Entry.TheVariants.{Through, Nowhere}
+use Rattle.std.specs.Prelude.{Option, Some, None}
 use Rattle.host_box.specs.declared.Outcome.{Outcome as Told}
 
 -- a message with a link, in numbers
@@ -36,12 +36,12 @@ abbrev lent : Outcome → Called
 lent o = in_numbers (with_area o)
 
 module _ (b : DisplayBox) (way link : ℕ) (m area : List ℕ) where
-  by_entry : (P : Called → Type 0) → ((msg : Message) → Lends link area msg → P (lent (step b msg))) → P (in_numbers (unanswered (step b (udp m)) area)) → P (no_way b area) → (e : Entry) → P (called_by e b link m area)
-  by_entry P on alone none (Through (By Rs232c)) = on (rs232c link m area) (by_rs232c m)
-  by_entry P on alone none (Through (By Kjw)) = on (kjw link m area) (by_kjw m)
-  by_entry P on alone none (Through (By Tcp)) = on (tcp link m area) (by_tcp_lem m)
-  by_entry P on alone none (Through Udp) = alone
-  by_entry P on alone none Nowhere = none
+  by_entry : (P : Called → Type 0) → ((msg : Message) → Lends link area msg → P (lent (step b msg))) → P (in_numbers (unanswered (step b (udp m)) area)) → P (no_way b area) → (e : Option Way) → P (called_by e b link m area)
+  by_entry P on alone none (Some (By Rs232c)) = on (rs232c link m area) (by_rs232c m)
+  by_entry P on alone none (Some (By Kjw)) = on (kjw link m area) (by_kjw m)
+  by_entry P on alone none (Some (By Tcp)) = on (tcp link m area) (by_tcp_lem m)
+  by_entry P on alone none (Some Udp) = alone
+  by_entry P on alone none None = none
 
   -- what holds of each way, and of no way, holds of the call
   at_every : (P : Called → Type 0) → ((msg : Message) → Lends link area msg → P (lent (step b msg))) → P (in_numbers (unanswered (step b (udp m)) area)) → P (no_way b area) → P (called b way link m area)
@@ -61,12 +61,12 @@ module _ (b : DisplayBox) (way link : ℕ) (m area : List ℕ) where
   numbered = at_every (λ (c : Called). listed message_answers c.answer ≡ true) (λ msg k. steps.numbered b msg) (steps.numbered b (udp m)) refl
 
   -- document 02, §8, "With each goes the place of the first byte of the guilty field": number and length fix it, whatever the number of the way
-  placed_by : (e : Entry) → (called_by e b link m area).place ≡ get_or (places_in (length m)) (called_by e b link m area).answer 0
-  placed_by (Through (By Rs232c)) = placed b (rs232c link m area)
-  placed_by (Through (By Kjw)) = placed b (kjw link m area)
-  placed_by (Through (By Tcp)) = placed b (tcp link m area)
-  placed_by (Through Udp) = placed b (udp m)
-  placed_by Nowhere = refl
+  placed_by : (e : Option Way) → (called_by e b link m area).place ≡ get_or (places_in (length m)) (called_by e b link m area).answer 0
+  placed_by (Some (By Rs232c)) = placed b (rs232c link m area)
+  placed_by (Some (By Kjw)) = placed b (kjw link m area)
+  placed_by (Some (By Tcp)) = placed b (tcp link m area)
+  placed_by (Some Udp) = placed b (udp m)
+  placed_by None = refl
 
   pub call_placed : (called b way link m area).place ≡ get_or (places_in (length m)) (called b way link m area).answer 0
   unfolding called
@@ -132,10 +132,10 @@ module _ (b : DisplayBox) (way link : ℕ) (m area : List ℕ) where
   early_as_it_came z h = came (called b way link m area) (early_untouched z h)
 
   -- "A box of no panels answers 3 or 4 to UDP, and 2 to other messages once check 1 is passed."
-  abbrev pub no_panels_say : Entry → ℕ
-  no_panels_say (Through (By line)) = cond (ltb (length area) 512) 1 2
-  no_panels_say (Through Udp) = cond (ltb (length m) 13) 3 4
-  no_panels_say Nowhere = 2
+  abbrev pub no_panels_say : Option Way → ℕ
+  no_panels_say (Some (By line)) = cond (ltb (length area) 512) 1 2
+  no_panels_say (Some Udp) = cond (ltb (length m) 13) 3 4
+  no_panels_say None = 2
 
   bad_answer : (msg : Message) → Lends link area msg → valid b ≡ false → (step b msg).answer ≡ cond (ltb (length area) 512) AreaTooSmall NoSuchPanel
   bad_answer msg k v = go (ltb (length area) 512) refl
@@ -159,12 +159,12 @@ module _ (b : DisplayBox) (way link : ℕ) (m area : List ℕ) where
       go true = refl
       go false = refl
 
-  bad_said : valid b ≡ false → (e : Entry) → (called_by e b link m area).answer ≡ no_panels_say e
-  bad_said v (Through (By Rs232c)) = bad_number (rs232c link m area) (by_rs232c m) v
-  bad_said v (Through (By Kjw)) = bad_number (kjw link m area) (by_kjw m) v
-  bad_said v (Through (By Tcp)) = bad_number (tcp link m area) (by_tcp_lem m) v
-  bad_said v (Through Udp) = bad_number_udp v
-  bad_said v Nowhere = refl
+  bad_said : valid b ≡ false → (e : Option Way) → (called_by e b link m area).answer ≡ no_panels_say e
+  bad_said v (Some (By Rs232c)) = bad_number (rs232c link m area) (by_rs232c m) v
+  bad_said v (Some (By Kjw)) = bad_number (kjw link m area) (by_kjw m) v
+  bad_said v (Some (By Tcp)) = bad_number (tcp link m area) (by_tcp_lem m) v
+  bad_said v (Some Udp) = bad_number_udp v
+  bad_said v None = refl
 
   -- such a box "is answered as a box of no panels", and that is all that the call gives
   pub garbage_answered : valid b ≡ false → called b way link m area ≡ as_it_came (no_panels_say (way_of way))

@@ -23,17 +23,17 @@ use Rattle.panels.specs.declared.Panel.{Panel}
 use Rattle.host_box.specs.Called.{way_of, called_by, called, panel_behind}
 use Rattle.host_box.specs.Life.{Call, after_call, life, and_by, and_that, messages_of, is_for_by, CallGot, with_area, without_area, got_through, gots}
 use Rattle.addresses.specs.declared.Line.TheVariants.{Rs232c, Kjw, Tcp}
+use Rattle.ways_in.specs.declared.Way.{Way}
 use Rattle.ways_in.specs.declared.Way.TheVariants.{By, Udp}
-use Rattle.host_box.specs.declared.Entry.{Entry}
-use Rattle.host_box.specs.declared.Entry.TheVariants.{Through, Nowhere}
+use Rattle.std.specs.Prelude.{Option, Some, None}
 
 -- ---- the box
 
 -- one call, by where its number leads
-by_entry : (b : DisplayBox) (rest : List Message) (k : Call) (e : Entry) → run (called_by e b k.link k.message k.area).box rest ≡ run b (and_by e k rest)
-by_entry b rest k (Through (By line)) = refl
-by_entry b rest k (Through Udp) = refl
-by_entry b rest k Nowhere = refl
+by_entry : (b : DisplayBox) (rest : List Message) (k : Call) (e : Option Way) → run (called_by e b k.link k.message k.area).box rest ≡ run b (and_by e k rest)
+by_entry b rest k (Some (By line)) = refl
+by_entry b rest k (Some Udp) = refl
+by_entry b rest k None = refl
 
 one_call : (b : DisplayBox) (rest : List Message) (k : Call) → run (after_call b k) rest ≡ run b (and_that k rest)
 unfolding called
@@ -72,14 +72,14 @@ module _ (i : ℕ) where
       go true q = ap (λ (y : CallGot). y ∷ gs) e ∙ ap (λ (ys : List CallGot). told m (got_by b m) ∷ ys) q
       go false q = q
 
-  got_by_entry : (b : DisplayBox) (k : Call) (ms : List Message) (ks : List Call) (e : Entry) → ((c : DisplayBox) → ToldIn c ms (gots i c ks)) → ToldIn b (and_by e k ms) (cond (is_for_by e i (names b) k) (got_through e k.area (called_by e b k.link k.message k.area) ∷ gots i (called_by e b k.link k.message k.area).box ks) (gots i (called_by e b k.link k.message k.area).box ks))
-  got_by_entry b k ms ks (Through (By Rs232c)) r = in_front_lem b (rs232c k.link k.message k.area) ms _ _ refl (r (step b (rs232c k.link k.message k.area)).box)
-  got_by_entry b k ms ks (Through (By Kjw)) r = in_front_lem b (kjw k.link k.message k.area) ms _ _ refl (r (step b (kjw k.link k.message k.area)).box)
-  got_by_entry b k ms ks (Through (By Tcp)) r = in_front_lem b (tcp k.link k.message k.area) ms _ _ refl (r (step b (tcp k.link k.message k.area)).box)
-  got_by_entry b k ms ks (Through Udp) r =
+  got_by_entry : (b : DisplayBox) (k : Call) (ms : List Message) (ks : List Call) (e : Option Way) → ((c : DisplayBox) → ToldIn c ms (gots i c ks)) → ToldIn b (and_by e k ms) (cond (is_for_by e i (names b) k) (got_through e k.area (called_by e b k.link k.message k.area) ∷ gots i (called_by e b k.link k.message k.area).box ks) (gots i (called_by e b k.link k.message k.area).box ks))
+  got_by_entry b k ms ks (Some (By Rs232c)) r = in_front_lem b (rs232c k.link k.message k.area) ms _ _ refl (r (step b (rs232c k.link k.message k.area)).box)
+  got_by_entry b k ms ks (Some (By Kjw)) r = in_front_lem b (kjw k.link k.message k.area) ms _ _ refl (r (step b (kjw k.link k.message k.area)).box)
+  got_by_entry b k ms ks (Some (By Tcp)) r = in_front_lem b (tcp k.link k.message k.area) ms _ _ refl (r (step b (tcp k.link k.message k.area)).box)
+  got_by_entry b k ms ks (Some Udp) r =
       let o = step b (udp k.message) in
       in_front_lem b (udp k.message) ms _ _ (ap (without_area (number_of o.answer) (answer_place o.answer) o.back.len) (same_self k.area)) (r o.box)
-  got_by_entry b k ms ks Nowhere r = r b
+  got_by_entry b k ms ks None r = r b
 
   -- what a host's calls got is what the messages of the run got
   pub gots_told : (ks : List Call) (b : DisplayBox) → ToldIn b (messages_of ks) (gots i b ks)

@@ -1,5 +1,5 @@
 -- The box as a C host calls it: the one step, its ways in told apart by a number, its answers as numbers.
-use Rattle.std.specs.Prelude.{ℕ, ◌-◌, cond, ◌&&◌, List, eqb, leb}
+use Rattle.std.specs.Prelude.{ℕ, ◌-◌, cond, ◌&&◌, Option, Some, None, List, eqb, leb}
 use Rattle.terms.specs.Answers.{number_of, answer_place}
 use Rattle.terms.specs.declared.Answer.TheVariants.{NoSuchPanel}
 use Rattle.panels.specs.Records.{zero_panel}
@@ -9,12 +9,11 @@ use Rattle.panels.specs.declared.DisplayBox.{DisplayBox}
 use Rattle.steps.specs.Step.{panel_at}
 use Rattle.addresses.specs.declared.Line.TheVariants.{Rs232c, Kjw, Tcp}
 use Rattle.ways_in.specs.Promise.{Came, came_by}
+use Rattle.ways_in.specs.declared.Way.{Way}
 use Rattle.ways_in.specs.declared.Way.TheVariants.{By, Udp}
 use Rattle.configure.specs.declared.Configured.{Configured}
 use Rattle.host_box.specs.declared.Made.{Made}
 use Rattle.host_box.specs.declared.Outcome.{Outcome}
-use Rattle.host_box.specs.declared.Entry.{Entry}
-use Rattle.host_box.specs.declared.Entry.TheVariants.{Through, Nowhere}
 
 -- a configuration's box, its answer as a number
 abbrev pub made_of : Configured → Made
@@ -36,17 +35,17 @@ abbrev pub no_way : DisplayBox → List ℕ → Called
 no_way b area = record { box = b; answer = number_of NoSuchPanel; place = answer_place NoSuchPanel; len = 0; area = area }
 
 -- "RS-232C port of panel p, KJW link of panel p, SDCP by TCP on the link of panel p, or SDCP by UDP": 1, 2, 3, 4
-unfoldable pub way_of : ℕ → Entry
+unfoldable pub way_of : ℕ → Option Way
 way_of n =
-    cond (eqb n 1) (Through (By Rs232c))
-    (cond (eqb n 2) (Through (By Kjw))
-    (cond (eqb n 3) (Through (By Tcp))
-    (cond (eqb n 4) (Through Udp)
-    Nowhere)))
+    cond (eqb n 1) (Some (By Rs232c))
+    (cond (eqb n 2) (Some (By Kjw))
+    (cond (eqb n 3) (Some (By Tcp))
+    (cond (eqb n 4) (Some Udp)
+    None)))
 
-abbrev pub called_by : Entry → DisplayBox → ℕ → List ℕ → List ℕ → Called
-called_by (Through way) b link m area = in_numbers (came_by way b link m area)
-called_by Nowhere b link m area = no_way b area
+abbrev pub called_by : Option Way → DisplayBox → ℕ → List ℕ → List ℕ → Called
+called_by (Some way) b link m area = in_numbers (came_by way b link m area)
+called_by None b link m area = no_way b area
 
 unfoldable pub called : DisplayBox → ℕ → ℕ → List ℕ → List ℕ → Called
 called b way link m area = called_by (way_of way) b link m area

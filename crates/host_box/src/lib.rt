@@ -10,7 +10,7 @@ use addresses::Line;
 use box_rules::is_valid;
 use configure::configure;
 use panels::{DisplayBox, Panel, zero_panel};
-use terms::{Answer, answer_number, answer_place};
+use terms::Answer;
 use ways_in::{Way, take};
 
 // What a message did: the box after it, the answer's number and its place in the message, the reply's length, and whether the number is 0.
@@ -28,13 +28,6 @@ pub struct Outcome {
 pub struct Made {
     pub made: DisplayBox,
     pub answer: u8,
-}
-
-// Where the number of a way leads.
-#[derive(Clone, Copy)]
-pub enum Entry {
-    Through(Way),
-    Nowhere,
 }
 
 // An answer's number, and its place in the message.
@@ -56,8 +49,8 @@ fn answer_numbers(answer: Answer, done: bool) -> AnswerNumbers
         };
     }
     AnswerNumbers {
-        number: answer_number(answer),
-        place: answer_place(answer),
+        number: answer.number(),
+        place: answer.place(),
     }
 }
 
@@ -66,32 +59,24 @@ pub fn make_box(configuration: &[u8]) -> Made
     ensures { result ≡ made_of (configured configuration.now) }
 {
     let c = configure(configuration);
-    let made = c.made;
-    let given = c.answer;
     Made {
-        made,
-        answer: answer_number(given),
+        made: c.made,
+        answer: c.answer.number(),
     }
 }
 
 // 1 is the RS-232C port of the link's panel, 2 its KJW link, 3 TCP on its link, 4 UDP. There is no other way in.
 #[tactic(auto, unfolding(crate::specs::Called::way_of))]
-fn way_of(number: u8) -> Entry
+fn way_of(number: u8) -> Option<Way>
     ensures { result ≡ way_of number }
 {
-    if number == 1 {
-        return Entry::Through(Way::By(Line::Rs232c));
+    match number {
+        1 => Some(Way::By(Line::Rs232c)),
+        2 => Some(Way::By(Line::Kjw)),
+        3 => Some(Way::By(Line::Tcp)),
+        4 => Some(Way::Udp),
+        _ => None,
     }
-    if number == 2 {
-        return Entry::Through(Way::By(Line::Kjw));
-    }
-    if number == 3 {
-        return Entry::Through(Way::By(Line::Tcp));
-    }
-    if number == 4 {
-        return Entry::Through(Way::Udp);
-    }
-    Entry::Nowhere
 }
 
 // A message by the number of its way in.
@@ -100,20 +85,18 @@ pub fn take_message(b: DisplayBox, way: u8, link: usize, m: &[u8], area: &mut [u
         × (area.new ≡ (called b way link m.now area.old).area) }
 {
     match way_of(way) {
-        Entry::Through(w) => {
+        Some(w) => {
             let t = take(b, w, link, m, area);
-            let answer = t.answer;
-            let n = answer_numbers(answer, t.done);
-            let after = t.after;
+            let n = answer_numbers(t.answer, t.done);
             Outcome {
-                after,
+                after: t.after,
                 answer: n.number,
                 place: n.place,
                 len: t.len,
                 done: t.done,
             }
         }
-        Entry::Nowhere => {
+        None => {
             let n = answer_numbers(Answer::NoSuchPanel, false);
             Outcome {
                 after: b,
@@ -134,12 +117,8 @@ pub fn panel_behind(b: DisplayBox, link: usize) -> Panel
     if !is_valid(b) {
         return zero_panel();
     }
-    if link < 1 {
+    if !(1..=b.count).contains(&link) {
         return zero_panel();
     }
-    if b.count < link {
-        return zero_panel();
-    }
-    let ps = b.panels;
-    ps[link - 1]
+    b.panels[link - 1]
 }
