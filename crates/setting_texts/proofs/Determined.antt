@@ -3,7 +3,6 @@ use mathlib.Core.Path.{◌≡◌, sym, ◌∙◌}
 use mathlib.Core.List.{List}
 use Prim.Native.Nat.{ℕ}
 use lib.ListN.{length}
-use Rattle.laws.specs.Bytes.{laid}
 use Rattle.setting_texts.specs.Names.{name_of, lead_of, words_of, word_of}
 
 pub lead_one : (k : ℕ) (r r' : List ℕ) → r ≡ lead_of k → r' ≡ lead_of k → r ≡ r'
@@ -17,15 +16,3 @@ word_one k v r r' p q = p ∙ sym q
 
 pub word_count_one : (k r r' : ℕ) → r ≡ length (words_of k) → r' ≡ length (words_of k) → r ≡ r'
 word_count_one k r r' p q = p ∙ sym q
-
-pub lead_length_one : (k r r' : ℕ) → r ≡ length (lead_of k) → r' ≡ length (lead_of k) → r ≡ r'
-lead_length_one k r r' p q = p ∙ sym q
-
-pub put_lead_one : (d : List ℕ) (n k : ℕ) (x x' : List ℕ) → x ≡ laid d n (lead_of k) → x' ≡ laid d n (lead_of k) → x ≡ x'
-put_lead_one d n k x x' p q = p ∙ sym q
-
-pub put_word_one : (d : List ℕ) (n k v : ℕ) (x x' : List ℕ) → x ≡ laid d n (word_of k v) → x' ≡ laid d n (word_of k v) → x ≡ x'
-put_word_one d n k v x x' p q = p ∙ sym q
-
-pub word_length_one : (k v r r' : ℕ) → r ≡ length (word_of k v) → r' ≡ length (word_of k v) → r ≡ r'
-word_length_one k v r r' p q = p ∙ sym q

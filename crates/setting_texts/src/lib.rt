@@ -2,10 +2,7 @@
 #![tactic(auto)]
 
 ghost use Rattle.std.specs.Prelude.{◌≡◌, length};
-ghost use Rattle.laws.specs.Bytes.{laid};
 ghost use Rattle.setting_texts.specs.Names.{name_of, lead_of, words_of, word_of};
-
-use octets::lay;
 
 // Each name with what parts it from its value. A `match` is a table in the program itself: an array would be built anew for each search.
 pub fn lead(k: usize) -> &'static [u8]
@@ -47,34 +44,6 @@ pub fn name(k: usize) -> &'static [u8]
         [name @ .., b' '] => name,
         name => name,
     }
-}
-
-// The length of a name with what parts it from its value; 0 where there is no such name.
-pub fn lead_length(k: usize) -> usize
-    ensures { result ≡ length (lead_of k) }
-{
-    lead(k).len()
-}
-
-// A name with what parts it from its value, laid over an area from a place on.
-pub fn put_lead(out: &mut [u8], at: usize, k: usize)
-    ensures { out.new ≡ laid out.old at (lead_of k) }
-{
-    lay(out, at, lead(k));
-}
-
-// The word of setting k's value v, laid over an area from a place on.
-pub fn put_word(out: &mut [u8], at: usize, k: usize, v: usize)
-    ensures { out.new ≡ laid out.old at (word_of k v) }
-{
-    lay(out, at, word(k, v));
-}
-
-// The length of that word; 0 where there is none.
-pub fn word_length(k: usize, v: usize) -> usize
-    ensures { result ≡ length (word_of k v) }
-{
-    word(k, v).len()
 }
 
 // How many words setting k's values have.

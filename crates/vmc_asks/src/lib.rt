@@ -7,7 +7,7 @@ ghost use Rattle.setting_words.specs.Names.{chosen_by};
 ghost use Rattle.vmc_asks.specs.Asks.{level_of, signed, shift_by, shift_order, value_order, read_set, read_get, read_words, read_data, is_question, asks_status};
 
 use decimals::plain_number;
-use setting_texts::lead_length;
+use setting_texts::lead;
 use setting_words::{chosen, led, named};
 use settings::{LEVEL_COUNT, MOST_LEVEL, MOST_SHIFT, SETTING_COUNT};
 use trimming::trim;
@@ -97,7 +97,7 @@ fn read_set(s: &[u8]) -> Option<Order>
         return Some(Order::Reset);
     }
     let k = led(s)?;
-    value_order(k, &s[lead_length(k)..])
+    value_order(k, &s[lead(k).len()..])
 }
 
 // The words behind STATget.

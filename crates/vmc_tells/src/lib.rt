@@ -9,7 +9,7 @@ ghost use Rattle.vmc_tells.specs.Texts.{sign_of, shift_words, set_words};
 
 use decimals::{Text, numeral_of};
 use octets::lay;
-use setting_texts::{lead_length, put_lead, put_word, word_length};
+use setting_texts::{lead, word};
 use settings::LEVEL_COUNT;
 
 // What an order is told: nothing, a setting's value, or a shift.
@@ -26,12 +26,12 @@ fn phrase(k: usize, value: &[u8]) -> Text<20>
     ensures { result ≡ textual (lead_of k ++ value.now) }
 {
     let mut bytes = [0u8; 20];
-    let n = lead_length(k);
-    put_lead(&mut bytes, 0, k);
-    lay(&mut bytes, n, value);
+    let name = lead(k);
+    lay(&mut bytes, 0, name);
+    lay(&mut bytes, name.len(), value);
     Text {
         bytes,
-        len: n + value.len(),
+        len: name.len() + value.len(),
     }
 }
 
@@ -46,9 +46,7 @@ fn spell_level(k: usize, v: u8) -> Text<20>
 fn spell_choice(k: usize, v: u8) -> Text<20>
     ensures { result ≡ textual (lead_of k ++ word_of k v) }
 {
-    let mut word = [0u8; 7];
-    put_word(&mut word, 0, k, v as usize);
-    phrase(k, &word[..word_length(k, v as usize)])
+    phrase(k, word(k, v as usize))
 }
 
 // A setting with its value.

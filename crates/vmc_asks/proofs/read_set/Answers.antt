@@ -45,11 +45,11 @@ returns-in_err-k c =
     c.from_residual.ensures ∙ ap (λ x. set_order x s) (sym c.in_err-k.was ∙ c.led.ensures) ∙ ordered s (resets s _ _ c.eq.ensures c.as_slice.ensures ∙ c.if-eq.false)
 
 pub slice_bounds-value_order-count : goal.slice_bounds-value_order-count
-slice_bounds-value_order-count c = fits c.args.s.now c.in_ok-k.k c.lead_length.result (sym c.led.ensures ∙ c.in_ok-k.was) c.lead_length.ensures
+slice_bounds-value_order-count c = fits c.args.s.now c.in_ok-k.k (length c.lead.result.now) (sym c.led.ensures ∙ c.in_ok-k.was) (ap length c.lead.ensures)
 
 pub slice_bounds-value_order-start : goal.slice_bounds-value_order-start
 slice_bounds-value_order-start c =
-    let h = fits c.args.s.now c.in_ok-k.k c.lead_length.result (sym c.led.ensures ∙ c.in_ok-k.was) c.lead_length.ensures in
+    let h = fits c.args.s.now c.in_ok-k.k (length c.lead.result.now) (sym c.led.ensures ∙ c.in_ok-k.was) (ap length c.lead.ensures) in
     omega (arith, h)
 
 pub returns : goal.returns
@@ -57,6 +57,6 @@ returns c =
     let s = c.args.s.now in
     let k = c.in_ok-k.k in
     c.value_order.ensures
-    ∙ ap (value_order k) (rest s c.lead_length.result ∙ ap (λ (n : ℕ). drop n s) c.lead_length.ensures)
+    ∙ ap (value_order k) (rest s (length c.lead.result.now) ∙ ap (λ (n : ℕ). drop n s) (ap length c.lead.ensures))
     ∙ ap (λ x. set_order x s) (sym c.in_ok-k.was ∙ c.led.ensures)
     ∙ ordered s (resets s _ _ c.eq.ensures c.as_slice.ensures ∙ c.if-eq.false)
