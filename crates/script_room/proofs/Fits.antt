@@ -46,8 +46,8 @@ use Rattle.kjw.specs.Replies as frames
 use Rattle.kjw.proofs.Notices.{reply_length}
 use Rattle.sdcp_asks.specs.Asks.{heard_of, cast_of}
 use Rattle.sdcp.specs.Replies as packets
-use Rattle.sdcp_asks.specs.declared.Heard.{Heard as PacketHeard}
-use Rattle.sdcp_asks.specs.declared.Heard.TheVariants as packetIs
+use Rattle.sdcp_asks.specs.Asks.{Heard as PacketHeard}
+use Rattle.sdcp_asks.specs.declared.Fault.TheVariants as packetIs
 use Rattle.sdcp.specs.declared.Reply.{Reply as PacketReply}
 use Rattle.rs232c_asks.specs.Asks as serialAsks
 use Rattle.rs232c_asks.specs.declared.Order.{Order as SerialOrder}
@@ -406,10 +406,10 @@ packet_fits m (Ok t) = packed_fits m 0x01 (text_of t) (words_fit_lem t)
 
 packet_turn_fits : (m : List ℕ) (h : PacketHeard) (w : WRecord) → length (packets.turned m h w).reply ≤ 48
 unfolding packets.turned
-packet_turn_fits m (packetIs.Refused a) w = omega arith
-packet_turn_fits m (packetIs.Broken p) w = packet_fits m Ng
-packet_turn_fits m packetIs.NotUnderstood w = packet_fits m (Ok Bare)
-packet_turn_fits m (packetIs.Understood o) w = packet_fits m (Ok (says_of o w))
+packet_turn_fits m (Failed (packetIs.Refused a)) w = omega arith
+packet_turn_fits m (Failed (packetIs.Broken p)) w = packet_fits m Ng
+packet_turn_fits m (Failed packetIs.NotUnderstood) w = packet_fits m (Ok Bare)
+packet_turn_fits m (Done o) w = packet_fits m (Ok (says_of o w))
 
 behind : {R : Type 0} (n : ℕ) (f : R → Turn R) (x : R) → length (f x).reply ≤ 48 → length (taken n f x).reply ≤ 48
 behind {R} n f x = either-turn (λ (t : Turn R). length t.reply ≤ 48) n f x (omega arith)
