@@ -1,4 +1,3 @@
 pub mod Determined
 pub mod Ended
 pub mod Fronts
-pub mod Signs

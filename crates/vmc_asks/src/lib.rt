@@ -46,10 +46,8 @@ fn signed_of(minus: bool, size: u8) -> i8
     requires { size ≤ most_shift }
     ensures { result ≡ signed minus size }
 {
-    if minus {
-        return 0 - (size as i8);
-    }
-    size as i8
+    let size = size as i8;
+    if minus { -size } else { size }
 }
 
 // A shift of at least so much and at most 30.
