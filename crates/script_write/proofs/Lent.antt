@@ -1,10 +1,11 @@
 -- What is lent on is the front of an array: the bytes that were sent to it, or so many bytes of one value.
-use Prim.Native.Nat.{ℕ, zero, suc, ◌≤◌}
-use mathlib.Core.Path.{◌≡◌, refl, sym, ap, ◌∙◌}
-use mathlib.Core.List.{List, ◌∷◌}
+use Prim.Native.Nat.{ℕ, ◌≤◌}
+use mathlib.Core.Path.{◌≡◌, sym, ap, ◌∙◌}
+use mathlib.Core.List.{List}
 use native.Mathlib.Omega.{arith}
 use lib.ListN.{length, take, drop, replicate, length-append, length-replicate}
 use lib.Seq.{take_at}
+use Rattle.std.proofs.lemmas.List.{take-replicate}
 use Rattle.laws.specs.Bytes.{Sent}
 
 -- the first n bytes of an area to which n bytes were sent
@@ -22,9 +23,7 @@ front_fits {bytes} {n} {area} s =
 
 -- the first n bytes of an area that holds one value throughout
 pub throughout : (n m x : ℕ) → n ≤ m → take n (replicate m x) ≡ replicate n x
-throughout zero m x h = refl
-throughout (suc n) zero x h = absurd (omega arith)
-throughout (suc n) (suc m) x h = ap (λ (l : List ℕ). x ∷ l) (throughout n m x (omega arith))
+throughout n m x h = take-replicate n m x h
 
 pub throughout_length : (n m x : ℕ) → n ≤ m → n ≡ length (take n (replicate m x))
 throughout_length n m x h = sym (ap length (throughout n m x h) ∙ length-replicate n x)

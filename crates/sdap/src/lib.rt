@@ -1,5 +1,5 @@
 // The SDAP advert of 122 bytes: its fields, the rules that reader and writer share, and the writer's answer (document 01, "SDAP advert, 122 bytes").
-#![tactic(auto, unfolding(crate::specs::Rules::are_texts, crate::specs::Rules::is_category, crate::specs::Rules::is_filled, crate::specs::Rules::is_sized, crate::specs::Rules::verdict, crate::specs::Rules::write_answer))]
+#![tactic(auto)]
 
 ghost use Rattle.std.specs.Prelude.{◌≡◌};
 ghost use Rattle.sdap.specs.Layout.{lent_of};
@@ -24,7 +24,7 @@ pub struct Advert {
     pub unit: UnitId,
 }
 
-// What the reader gives: the answer, and the fields, "all zero when refused".
+// What the reader gives: the answer, and the fields, "all zero when refused". So there are fields beside a refusal too, and this is no `Result`.
 #[derive(Clone, Copy)]
 pub struct Read {
     pub answer: Answer,
@@ -59,6 +59,7 @@ fn is_text(t: &[u8]) -> bool
 }
 
 // A monitor or a controller.
+#[tactic(auto, unfolding(crate::specs::Rules::is_category))]
 fn is_category(c: u8) -> bool
     ensures { result ≡ is_category c }
 {
@@ -74,6 +75,7 @@ pub fn text_length(t: &[u8]) -> usize
 
 impl<'a> Fields<'a> {
     // The four texts are texts.
+    #[tactic(auto, unfolding(crate::specs::Rules::are_texts))]
     fn are_texts(&self) -> bool
         ensures { result ≡ are_texts (lent_of self.now) }
     {
@@ -84,6 +86,7 @@ impl<'a> Fields<'a> {
     }
 
     // Power and error are 0 or 1, and the four texts are texts.
+    #[tactic(auto, unfolding(crate::specs::Rules::is_filled))]
     fn is_filled(&self) -> bool
         ensures { result ≡ is_filled (lent_of self.now) }
     {
@@ -91,6 +94,7 @@ impl<'a> Fields<'a> {
     }
 
     // The text areas have their 12 or 24 bytes.
+    #[tactic(auto, unfolding(crate::specs::Rules::is_sized))]
     fn is_sized(&self) -> bool
         ensures { result ≡ is_sized (lent_of self.now) }
     {
@@ -101,6 +105,7 @@ impl<'a> Fields<'a> {
     }
 
     // The rules that reader and writer share: 4 for the category, 5 for the rest.
+    #[tactic(auto, unfolding(crate::specs::Rules::verdict))]
     pub fn verdict(&self) -> Answer
         ensures { result ≡ verdict (lent_of self.now) }
     {
@@ -114,6 +119,7 @@ impl<'a> Fields<'a> {
     }
 
     // The advert writer's answer, for an area of so many bytes.
+    #[tactic(auto, unfolding(crate::specs::Rules::write_answer))]
     pub fn write_answer(&self, room: usize) -> Answer
         ensures { result ≡ write_answer room (lent_of self.now) }
     {

@@ -18,7 +18,7 @@ fn bytes_at<const N: usize>(s: &[u8], at: usize) -> [u8; N]
     s[at..at + N].try_into().unwrap()
 }
 
-// The number that stands at a place.
+// The number that stands at a place: one function for each width, as the library has.
 fn number2_at(s: &[u8], at: usize) -> u16
     requires { at + 2 ≤ length s.now }
     ensures { result ≡ number (part at 2 s.now) }
@@ -133,7 +133,7 @@ pub fn read_answer(s: &[u8]) -> Answer
     fields(s).verdict()
 }
 
-// The advert reader. An answer and the fields, not one or the other: "all zero when refused".
+// The advert reader.
 pub fn read_advert(s: &[u8]) -> Read
     ensures { result ≡ read_of s.now }
 {

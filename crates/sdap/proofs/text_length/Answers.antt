@@ -1,5 +1,6 @@
 -- `text_length` is the place of the first 00h, or the whole length where there is none.
-use Rattle.std.proofs.Common.{ℕ, ◌+◌, ◌≤◌, ◌≡◌, refl, sym, ap, ◌∙◌, Bool, true, false, cond, List, [], ◌∷◌, length, eqb, nat_lt, rules, tests, arith, Some, None}
+use Rattle.std.proofs.Common.{ℕ, ◌+◌, ◌≤◌, ◌≡◌, refl, sym, ap, ◌∙◌, Bool, true, false, cond, List, [], ◌∷◌, length, eqb, nat_lt}
+use Rattle.std.proofs.Common.{rules, tests, arith, Some, None}
 use Rattle.std.proofs.lemmas.Iterator.{YieldsList-from_slice}
 use Rattle.std.proofs.lemmas.Iterator.Search.{position_from_yields_List}
 use Rattle.std.proofs.lemmas.List.Recursion.{is_position_or_len}
@@ -28,6 +29,7 @@ first n m h = go (nat_lt n m) refl
 pub returns : goal.returns
 returns c =
     let t = c.args.t.now in
-    let e = position_from_yields_List (λ x. eqb x 0) _ _ c.position.result c.position.ensures.ran (YieldsList-from_slice t cc) (λ x b q k. search (rules, tests)) in
+    let bytes = YieldsList-from_slice {s = c.iter.result} t cc in
+    let e = position_from_yields_List (λ x. eqb x 0) _ _ c.position.result c.position.ensures.ran bytes (λ x b q k. search (rules, tests)) in
     let f : position_or_len (λ x. eqb x 0) t ≤ length t = rw (← counted t) (text_fits t) in
     c.unwrap_or.ensures ∙ ap (λ o. unwrap_or o (length t)) e ∙ first _ _ f ∙ sym (counted t)

@@ -30,4 +30,5 @@ pub returns : goal.returns
 unfolding read_of
 returns c =
     let done : c.read_answer-answer.result ≡ Done = search (rules, tests) in
-    rw (c.advert.ensures, c.fields.ensures, eq-eqb (number_of (read_answer c.args.s.now)) 0 (ap number_of (sym c.read_answer-answer.ensures ∙ done)), c.read_answer-answer.ensures)
+    let answer = c.read_answer-answer.ensures in
+    rw (c.advert.ensures, c.fields.ensures, eq-eqb (number_of (read_answer c.args.s.now)) 0 (ap number_of (sym answer ∙ done)), answer)
