@@ -77,6 +77,8 @@ port_most p h d =
     let g : decimal (port_in p) < 10000 = rw l at f in
     omega arith
 
+pub ruleset input_most = (kind_most, port_most)
+
 -- there are sixteen of them in a frame
 pub sixteen : (s : State) (p : List ℕ) → length p ≡ 16 → set_of s p ≡ set_by s p
 unfolding set_of

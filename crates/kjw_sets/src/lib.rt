@@ -121,7 +121,7 @@ fn input_of(kind: u64, port: u64) -> Option<Order>
 }
 
 // INPT's parameters: their digits write the type and the port.
-#[tactic(auto, using(crate::proofs::Parameters::kind_most, crate::proofs::Parameters::port_most), unfolding(crate::specs::Sets::input_order, decimals::specs::Decimals::read_digits))]
+#[tactic(auto, using(crate::proofs::Parameters::input_most), unfolding(crate::specs::Sets::input_order, decimals::specs::Decimals::read_digits))]
 fn input_order(p: &[u8]) -> Option<Order>
     requires { length p.now ≡ 16 }
     ensures { result ≡ input_order p.now }
