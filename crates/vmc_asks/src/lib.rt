@@ -29,7 +29,9 @@ pub enum Order {
 fn level_of(s: &[u8]) -> Option<u8>
     ensures { result ≡ level_of s.now }
 {
-    let v = plain_number(s, MOST_LEVEL as u32)?;
+    let Some(v) = plain_number(s, MOST_LEVEL as u32) else {
+        return None;
+    };
     Some(v as u8)
 }
 
@@ -54,7 +56,9 @@ fn signed_of(minus: bool, size: u8) -> i8
 fn shift_by(axis: usize, minus: bool, least: u8, s: &[u8]) -> Option<Order>
     ensures { result ≡ shift_by axis minus least (level_of s.now) }
 {
-    let n = level_of(s)?;
+    let Some(n) = level_of(s) else {
+        return None;
+    };
     if !(least..=MOST_SHIFT as u8).contains(&n) {
         return None;
     }
@@ -74,12 +78,16 @@ fn shift_order(axis: usize, s: &[u8]) -> Option<Order>
     shift_by(axis, false, 0, s)
 }
 
-// What the words behind name k ask. "A word that should be a number and is none ends the reading with 6."
+// What the words behind name k ask. "A word that should be a number and is none ends the reading with 6": what the number reader gives
+// is taken apart by let .. else ("List of forms by place").
 fn value_order(k: usize, s: &[u8]) -> Option<Order>
     ensures { result ≡ value_order k s.now }
 {
     if k < LEVEL_COUNT {
-        return Some(Order::Set(k, level_of(s)?));
+        let Some(v) = level_of(s) else {
+            return None;
+        };
+        return Some(Order::Set(k, v));
     }
     if k < SETTING_COUNT {
         return Some(Order::Set(k, choice_of(k, s)?));

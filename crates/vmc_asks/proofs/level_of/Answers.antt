@@ -13,4 +13,4 @@ small : (most : ℕ) (s : List ℕ) (v : ℕ) → up_to most s ≡ Some v → v 
 small most s v e = subst (Most most) e (up_to_most most s)
 
 pub overflow_cast-result : goal.overflow_cast-result
-overflow_cast-result c = let h = small _ _ _ (sym c.plain_number.ensures ∙ c.in_ok-v.was) in omega arith
+overflow_cast-result c = let h = small _ _ _ (sym c.plain_number.ensures ∙ c.in-Some.is) in omega arith
