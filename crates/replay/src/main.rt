@@ -27,10 +27,8 @@ fn take_piece(
     let mut q = p;
     let mut at = 0;
     while at < piece.len() {
-        let held = q.held;
-        q = run_piece(held, q.kept, &piece[at..], store, area);
-        let len = q.len;
-        out.write_all(&area[..len])?;
+        q = run_piece(q.held, q.kept, &piece[at..], store, area);
+        out.write_all(&area[..q.len])?;
         at += q.next;
     }
     Ok(q)
@@ -46,8 +44,8 @@ fn read_some(input: &mut impl Read, area: &mut [u8]) -> usize
     }
 }
 
-// A proved loop has to end, and nothing says that the input does: so the turns are counted down from a number that no run
-// uses up. What a piece writes is out before the next one is read, so that a person at a terminal sees it. "The last may lack
+// A proved loop has to end, and nothing says that the input does: so the turns are counted up to a number that no run
+// reaches. What a piece writes is out before the next one is read, so that a person at a terminal sees it. "The last may lack
 // it": 0Ah behind the input ends the last line, and behind a line that has ended it is an empty line.
 fn main(rt: HostRuntime) -> io::Result<()> {
     let mut input = rt.stdin();
@@ -61,14 +59,12 @@ fn main(rt: HostRuntime) -> io::Result<()> {
         next: 0,
         len: 0,
     };
-    let mut turns = u64::MAX;
-    while turns > 0 {
+    for _ in 0..u64::MAX {
         let n = read_some(&mut input, &mut piece);
         if n == 0 {
             break;
         }
         p = take_piece(&mut out, p, &piece[..n], &mut store, &mut area)?;
-        turns -= 1;
     }
     take_piece(&mut out, p, b"\n", &mut store, &mut area)?;
     Ok(())

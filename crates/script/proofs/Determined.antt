@@ -5,7 +5,7 @@ use mathlib.Core.List.{List}
 use Rattle.script_text.proofs.Puts.{puts_one}
 use Rattle.script.specs.Answers.{Leaves, answered}
 use Rattle.script.specs.declared.Held.{Held}
-use Rattle.script.specs.declared.Left.{Left}
+use Rattle.script.specs.Answers.{Left}
 
 -- two outcomes agree: what is held, length of the text, and every lent byte
 pub record Agree (r r' : Left) (x x' : List ℕ) : Type 0 where

@@ -13,7 +13,7 @@ use Rattle.script_answers.specs.Answers.{Effect}
 use Rattle.script_receivers.specs.Receivers.{LinkEffect, pieced_by}
 use Rattle.script_orders.specs.Orders.{ordered}
 use Rattle.script.specs.declared.Held.{Held}
-use Rattle.script.specs.declared.Left.{Left}
+use Rattle.script_answers.specs.declared.Answered.{Answered}
 
 -- "A script starts with a box of no panels, and with empty receivers."
 unfoldable pub at_start : Held
@@ -46,6 +46,10 @@ carried_out Piece s line = on_link (link_place line) s (pieced_by s.made (receiv
 
 unfoldable pub answered : Held → List ℕ → LineEffect
 answered s line = carried_out (order_of line) s line
+
+-- what a line left, as the code says it: what is held after it, and the length of its text
+abbrev pub Left : Type 0
+Left = Answered Held
 
 -- the promise: what is held after the line, and its text at the front of the area, cut off where the area ends
 pub record Leaves (o : LineEffect) (r : Left) (area area' : List ℕ) : Type 0 where

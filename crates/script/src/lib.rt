@@ -9,6 +9,7 @@ ghost use Rattle.script.specs.Answers.{link_place, receiver_at, on_box, on_link,
 
 use panels::DisplayBox;
 use receiver::Receiver;
+use script_answers::Answered;
 use script_lines::{BoxOrder, Order, order_of};
 use script_orders::answer_order;
 use script_receivers::{LINKS, answer_piece};
@@ -21,24 +22,13 @@ pub struct Held {
     pub receivers: [Receiver; 8],
 }
 
-// What a line left: what is held after it, and the length of its text.
-#[derive(Clone, Copy)]
-pub struct Left {
-    pub after: Held,
-    pub len: usize,
-}
-
 // An order on the box.
-fn box_line(order: BoxOrder, s: Held, line: &[u8], out: &mut [u8]) -> Left
+fn box_line(order: BoxOrder, s: Held, line: &[u8], out: &mut [u8]) -> Answered<Held>
     ensures { Leaves (on_box s (ordered order s.made line.now)) result out.old out.new }
 {
-    let b = s.made;
-    let receivers = s.receivers;
-    let a = answer_order(order, b, line, out);
-    let made = a.after;
-    let held = Held { made, receivers };
-    Left {
-        after: held,
+    let a = answer_order(order, s.made, line, out);
+    Answered {
+        after: Held { made: a.after, ..s },
         len: a.len,
     }
 }
@@ -48,37 +38,28 @@ fn place_in(line: &[u8]) -> usize
     ensures { (result ≡ link_place line.now) × (result < 8) }
 {
     let link = number_at(line, 1, LINKS) as usize;
-    if link == 0 {
-        return 0;
-    }
-    link - 1
+    link.saturating_sub(1)
 }
 
 // A piece for a receiver.
-fn piece_line(s: Held, line: &[u8], out: &mut [u8]) -> Left
+fn piece_line(s: Held, line: &[u8], out: &mut [u8]) -> Answered<Held>
     ensures { Leaves (on_link (link_place line.now) s (pieced_by s.made (receiver_at (link_place line.now) s) line.now)) result out.old out.new }
 {
-    let b = s.made;
-    let mut receivers = s.receivers;
     let i = place_in(line);
-    let r = receivers[i];
-    let a = answer_piece(b, r, line, out);
-    let made = a.after;
-    let after = a.receiver;
-    receivers[i] = after;
-    let held = Held { made, receivers };
-    Left {
-        after: held,
+    let mut receivers = s.receivers;
+    let a = answer_piece(s.made, receivers[i], line, out);
+    receivers[i] = a.receiver;
+    Answered {
+        after: Held { made: a.after, receivers },
         len: a.len,
     }
 }
 
 // A line: what it does to what is held, and its text at the front of an area.
-pub fn answer_line(s: Held, line: &[u8], out: &mut [u8]) -> Left
+pub fn answer_line(s: Held, line: &[u8], out: &mut [u8]) -> Answered<Held>
     ensures { Leaves (answered s line.now) result out.old out.new }
 {
-    let order = order_of(line);
-    match order {
+    match order_of(line) {
         Order::OnBox(o) => box_line(o, s, line, out),
         Order::Piece => piece_line(s, line, out),
     }

@@ -29,6 +29,6 @@ unfoldable pub replied : Answer → ℕ → List ℕ → List ℕ
 replied a len area = reply_text (number_of a) (answer_place a) (take len area) (drop len area)
 
 -- the promise: the box after the line, and its text at the front of the area, cut off where the area ends
-pub record Answers (o : Effect) (r : Answered) (area area' : List ℕ) : Type 0 where
+pub record Answers (o : Effect) (r : Answered DisplayBox) (area area' : List ℕ) : Type 0 where
   pub box_is : r.after ≡ o.box
   pub text_is : Puts o.text area 0 area' r.len

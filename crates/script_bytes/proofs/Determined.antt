@@ -10,7 +10,7 @@ use Rattle.script_answers.specs.declared.Answered.{Answered}
 use Rattle.script_answers.proofs.Determined.{Agree, answers_one}
 use Rattle.script_bytes.specs.Bytes.{read_text, wrote, summed}
 
-module _ (b : DisplayBox) (line area : List ℕ) (r r' : Answered) (x x' : List ℕ) where
+module _ (b : DisplayBox) (line area : List ℕ) (r r' : Answered DisplayBox) (x x' : List ℕ) where
   pub answer_advert_one : Answers (writes b (read_text (read_of (bytes_at 1 line)))) r area x → Answers (writes b (read_text (read_of (bytes_at 1 line)))) r' area x' → Agree r r' x x'
   answer_advert_one = answers_one (writes b (read_text (read_of (bytes_at 1 line)))) area r r' x x'
 

@@ -18,7 +18,7 @@ use sdap_read::read_advert;
 use sums::sums_to_zero;
 use terms::Answer;
 
-pub fn answer_advert(b: DisplayBox, line: &[u8], out: &mut [u8]) -> Answered
+pub fn answer_advert(b: DisplayBox, line: &[u8], out: &mut [u8]) -> Answered<DisplayBox>
     ensures { Answers (writes b (read_text (read_of (bytes_at 1 line.now)))) result out.old out.new }
 {
     let mut bytes = [0u8; 1024];
@@ -41,7 +41,7 @@ fn filled_by(answer: Answer) -> usize
     }
 }
 
-fn write_in(b: DisplayBox, line: &[u8], area: &mut [u8], out: &mut [u8]) -> Answered
+fn write_in(b: DisplayBox, line: &[u8], area: &mut [u8], out: &mut [u8]) -> Answered<DisplayBox>
     ensures { Answers (writes b (wrote (wanted line.now) area.old)) result out.old out.new }
 {
     let answer = write_fields(line, area);
@@ -49,7 +49,7 @@ fn write_in(b: DisplayBox, line: &[u8], area: &mut [u8], out: &mut [u8]) -> Answ
     say_reply(b, answer, n, area, out)
 }
 
-pub fn answer_write(b: DisplayBox, line: &[u8], out: &mut [u8]) -> Answered
+pub fn answer_write(b: DisplayBox, line: &[u8], out: &mut [u8]) -> Answered<DisplayBox>
     ensures { Answers (writes b (wrote (wanted line.now) (filler (number_at 1024 1 line.now)))) result out.old out.new }
 {
     let mut area = [FILLER; 1024];
@@ -57,7 +57,7 @@ pub fn answer_write(b: DisplayBox, line: &[u8], out: &mut [u8]) -> Answered
     write_in(b, line, &mut area[..room], out)
 }
 
-pub fn answer_sum(b: DisplayBox, line: &[u8], out: &mut [u8]) -> Answered
+pub fn answer_sum(b: DisplayBox, line: &[u8], out: &mut [u8]) -> Answered<DisplayBox>
     ensures { Answers (writes b (summed (bytes_at 1 line.now))) result out.old out.new }
 {
     let mut bytes = [0u8; 1024];

@@ -9,5 +9,5 @@ use Rattle.script_answers.specs.declared.Answered.{Answered}
 use Rattle.script_answers.proofs.Determined.{Agree, answers_one}
 use Rattle.script_listings.specs.Listings.{plain_text}
 
-pub answer_plain_one : (b : DisplayBox) (line area : List ℕ) (r r' : Answered) (x x' : List ℕ) → Answers (writes b (plain_text (plain (bytes_at 1 line)))) r area x → Answers (writes b (plain_text (plain (bytes_at 1 line)))) r' area x' → Agree r r' x x'
+pub answer_plain_one : (b : DisplayBox) (line area : List ℕ) (r r' : Answered DisplayBox) (x x' : List ℕ) → Answers (writes b (plain_text (plain (bytes_at 1 line)))) r area x → Answers (writes b (plain_text (plain (bytes_at 1 line)))) r' area x' → Agree r r' x x'
 answer_plain_one b line = answers_one (writes b (plain_text (plain (bytes_at 1 line))))

@@ -59,7 +59,7 @@ fn put_listing(out: &mut [u8], at: usize, l: &Listing) -> usize
     put_end(out, e, l)
 }
 
-pub fn answer_plain(b: DisplayBox, line: &[u8], out: &mut [u8]) -> Answered
+pub fn answer_plain(b: DisplayBox, line: &[u8], out: &mut [u8]) -> Answered<DisplayBox>
     ensures { Answers (writes b (plain_text (plain (bytes_at 1 line.now)))) result out.old out.new }
 {
     let mut bytes = [0u8; 1024];

@@ -24,18 +24,15 @@ pub fn carry(
     m: &[u8],
     area: &mut [u8],
     out: &mut [u8],
-) -> Answered
+) -> Answered<DisplayBox>
     ensures answers { Answers (stepped (step b (message_of line link m.now area.old))) result out.old out.new }
     ensures lent { area.new ≡ (step b (message_of line link m.now area.old)).back.area }
 {
     let t = take(b, Way::By(line), link, m, area);
-    let len = t.len;
-    let answer = t.answer;
-    let after = t.after;
-    say_reply(after, answer, len, area, out)
+    say_reply(t.after, t.answer, t.len, area, out)
 }
 
-pub fn answer_message(by: Line, b: DisplayBox, line: &[u8], out: &mut [u8]) -> Answered
+pub fn answer_message(by: Line, b: DisplayBox, line: &[u8], out: &mut [u8]) -> Answered<DisplayBox>
     ensures { Answers (messaged by b line.now) result out.old out.new }
 {
     let mut bytes = [0u8; 1024];
@@ -46,14 +43,12 @@ pub fn answer_message(by: Line, b: DisplayBox, line: &[u8], out: &mut [u8]) -> A
     carry(by, b, link, &bytes[..n], &mut area[..room], out)
 }
 
-pub fn answer_udp(b: DisplayBox, line: &[u8], out: &mut [u8]) -> Answered
+pub fn answer_udp(b: DisplayBox, line: &[u8], out: &mut [u8]) -> Answered<DisplayBox>
     ensures { Answers (spread (step b (messages.udp (bytes_at 1 line.now)))) result out.old out.new }
 {
     let mut bytes = [0u8; 1024];
     let n = bytes_at(line, 1, &mut bytes);
     let mut unused = [0u8; 1];
     let t = take(b, Way::Udp, 0, &bytes[..n], &mut unused);
-    let after = t.after;
-    let answer = t.answer;
-    say_answer(after, out, answer)
+    say_answer(t.after, out, t.answer)
 }

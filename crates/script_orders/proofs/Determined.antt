@@ -8,5 +8,5 @@ use Rattle.script_lines.specs.declared.BoxOrder.{BoxOrder}
 use Prim.Native.Nat.{ℕ}
 use Rattle.script_orders.specs.Orders.{ordered}
 
-pub answer_order_one : (o : BoxOrder) (b : DisplayBox) (line area : List ℕ) (r r' : Answered) (x x' : List ℕ) → Answers (ordered o b line) r area x → Answers (ordered o b line) r' area x' → Agree r r' x x'
+pub answer_order_one : (o : BoxOrder) (b : DisplayBox) (line area : List ℕ) (r r' : Answered DisplayBox) (x x' : List ℕ) → Answers (ordered o b line) r area x → Answers (ordered o b line) r' area x' → Agree r r' x x'
 answer_order_one o b line = answers_one (ordered o b line)

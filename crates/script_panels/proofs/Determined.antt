@@ -10,7 +10,7 @@ use Rattle.script_answers.specs.declared.Answered.{Answered}
 use Rattle.script_answers.proofs.Determined.{Agree, answers_one}
 use Rattle.script_panels.specs.Panels.{boxed, shown_at}
 
-module _ (line area : List ℕ) (r r' : Answered) (x x' : List ℕ) where
+module _ (line area : List ℕ) (r r' : Answered DisplayBox) (x x' : List ℕ) where
   pub answer_box_one : Answers (boxed (configured (configuration_of line))) r area x → Answers (boxed (configured (configuration_of line))) r' area x' → Agree r r' x x'
   answer_box_one = answers_one (boxed (configured (configuration_of line))) area r r' x x'
 

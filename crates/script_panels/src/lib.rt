@@ -15,43 +15,33 @@ use script_boxes::configuration_in;
 use script_show::put_panel;
 use script_text::put_number_text;
 use script_words::{ANY, number_at};
-use terms::answer_number;
 
-pub fn answer_box(line: &[u8], out: &mut [u8]) -> Answered
+pub fn answer_box(line: &[u8], out: &mut [u8]) -> Answered<DisplayBox>
     ensures { Answers (boxed (configured (configuration_of line.now))) result out.old out.new }
 {
     let mut bytes = [0u8; 48];
     let n = configuration_in(line, &mut bytes);
     let c = configure(&bytes[..n]);
-    let made = c.made;
-    let answer = c.answer;
-    let at = put_number_text(out, 0, b"box ", answer_number(answer) as u32);
-    ended(made, out, at)
+    let at = put_number_text(out, 0, b"box ", c.answer.number() as u32);
+    ended(c.made, out, at)
 }
 
 // The box has a panel of that number.
-#[tactic(auto, unfolding(crate::specs::Panels::is_there))]
+#[tactic(auto, using(std::proofs::lemmas::Bool::Decides::nat_tests), unfolding(crate::specs::Panels::is_there))]
 fn is_there(count: usize, link: usize) -> bool
     ensures { result ≡ is_there count link }
 {
-    if link < 1 {
-        return false;
-    }
-    if 8 < link {
-        return false;
-    }
-    link <= count
+    (1..=8).contains(&link) && link <= count
 }
 
-pub fn answer_show(b: DisplayBox, line: &[u8], out: &mut [u8]) -> Answered
+pub fn answer_show(b: DisplayBox, line: &[u8], out: &mut [u8]) -> Answered<DisplayBox>
     ensures { Answers (writes b (shown_at b (number_at 4294967295 1 line.now))) result out.old out.new }
 {
     let link = number_at(line, 1, ANY) as usize;
     if !is_there(b.count, link) {
         return say(b, out, b"none");
     }
-    let ps = b.panels;
-    let p = ps[link - 1];
+    let p = b.panels[link - 1];
     let at = put_panel(out, 0, p);
     ended(b, out, at)
 }

@@ -55,7 +55,7 @@ module _ (link : ℕ) (area : List ℕ) (f : Between) (piece out : List ℕ) {g 
         ended_is = sym (eq-eqb _ _ z);
       }
 
-  pub call_more : (g.len ≡ 0 → ⊥) → f.len ≤ length out → {a : Answered} {out' : List ℕ} → Answers (packeted link area f.made (take g.len lent')) a (take (length out - f.len) (drop f.len out)) out'
+  pub call_more : (g.len ≡ 0 → ⊥) → f.len ≤ length out → {a : Answered DisplayBox} {out' : List ℕ} → Answers (packeted link area f.made (take g.len lent')) a (take (length out - f.len) (drop f.len out)) out'
       → CallsOnce link area f piece out (record { made = a.after; receiver = g.after; taken = f.taken + g.taken; len = f.len + a.len; ended = false }) (put_mid f.len (length out - f.len) out out')
   call_more e h {a} {out'} w =
       let z : length (called_by f piece).packet ≡ 0 → ⊥ = λ k. e (called.hands.length_is ∙ k) in

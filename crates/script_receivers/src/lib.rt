@@ -37,7 +37,7 @@ struct Between {
 }
 
 // A packet: its bytes, and the line of what the box does with it.
-fn say_packet(b: DisplayBox, link: usize, room: usize, packet: &[u8], out: &mut [u8]) -> Answered
+fn say_packet(b: DisplayBox, link: usize, room: usize, packet: &[u8], out: &mut [u8]) -> Answered<DisplayBox>
     requires { room ≤ 1024 }
     ensures { Answers (packeted link (filler room) b packet.now) result out.old out.new }
 {

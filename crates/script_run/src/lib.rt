@@ -33,29 +33,24 @@ pub struct Progress {
 fn no_panels() -> DisplayBox
     ensures { result ≡ no_box }
 {
-    let empty = [0u8; 1];
-    let c = configure(&empty[..0]);
-    c.made
+    configure(b"").made
 }
 
 // "and with empty receivers"
 pub fn start() -> Held
     ensures { result ≡ at_start }
 {
-    let made = no_panels();
-    let r = empty_receiver();
-    let receivers = [r; 8];
-    Held { made, receivers }
+    Held {
+        made: no_panels(),
+        receivers: [empty_receiver(); 8],
+    }
 }
 
 // How much of the store is the line that has not ended.
 fn line_length(store: &[u8], kept: usize) -> usize
     ensures { result ≡ length (take kept store.now) }
 {
-    if store.len() < kept {
-        return store.len();
-    }
-    kept
+    kept.min(store.len())
 }
 
 // One line, or what the piece has of it: where it ended it is answered.
@@ -64,25 +59,19 @@ fn run_line(p: Progress, piece: &[u8], store: &mut [u8], area: &mut [u8]) -> Pro
     ensures { RunsLine p piece.now store.old area.old result store.new area.new }
 {
     let part = take_part(store, p.kept, piece, p.next);
-    let kept = part.kept;
-    let len = p.len;
-    let held = p.held;
     if !part.ended {
         return Progress {
-            held,
-            kept,
+            kept: part.kept,
             next: part.next,
-            len,
+            ..p
         };
     }
-    let a = answer_line(held, &store[..kept], &mut area[len..]);
-    let after = a.after;
-    let full = len + a.len;
+    let a = answer_line(p.held, &store[..part.kept], &mut area[p.len..]);
     Progress {
-        held: after,
+        held: a.after,
         kept: 0,
         next: part.next,
-        len: full,
+        len: p.len + a.len,
     }
 }
 

@@ -48,8 +48,7 @@ fn put_setting(out: &mut [u8], at: usize, w: WRecord, k: usize) -> usize
     ensures { Puts (0x20 ∷ text_of (says_of (Order.Get k) w)) out.old at out.new result }
 {
     let to = put(out, at, b" ");
-    let text = spell(tell(w, Order::Get(k)));
-    put(out, to, &text.bytes[..text.len])
+    put(out, to, spell(tell(w, Order::Get(k))).as_slice())
 }
 
 fn put_settings(out: &mut [u8], at: usize, w: WRecord) -> usize

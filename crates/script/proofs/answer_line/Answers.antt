@@ -6,7 +6,7 @@ use Rattle.script_lines.specs.Orders.{order_of}
 use Rattle.script_lines.specs.declared.Order.{Order}
 use Rattle.script.specs.Answers.{Leaves, carried_out, answered}
 use Rattle.script.specs.declared.Held.{Held}
-use Rattle.script.specs.declared.Left.{Left}
+use Rattle.script.specs.Answers.{Left}
 use Rattle.script.proofs.answer_line.Goals as goal
 
 -- what the order of a line does is what the line does
@@ -16,8 +16,8 @@ by_order s line {o} {area} {area'} {r} e h = subst (λ (x : Order). Leaves (carr
 
 pub returns-in-OnBox : goal.returns-in-OnBox
 unfolding carried_out
-returns-in-OnBox c = by_order c.args.s c.args.line.now (sym c.order_of-order.ensures ∙ c.in-OnBox.is) c.box_line.ensures
+returns-in-OnBox c = by_order c.args.s c.args.line.now (sym c.in-OnBox.ensures) c.box_line.ensures
 
 pub returns-in-Piece : goal.returns-in-Piece
 unfolding carried_out
-returns-in-Piece c = by_order c.args.s c.args.line.now (sym c.order_of-order.ensures ∙ c.in-Piece.is) c.piece_line.ensures
+returns-in-Piece c = by_order c.args.s c.args.line.now (sym c.in-Piece.ensures) c.piece_line.ensures

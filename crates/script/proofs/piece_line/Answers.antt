@@ -9,7 +9,7 @@ use Rattle.script_receivers.specs.Receivers.{Links, pieced_by}
 use Rattle.script_receivers.specs.declared.Linked.{Linked}
 use Rattle.script.specs.Answers.{receiver_at, on_link, Leaves}
 use Rattle.script.specs.declared.Held.{Held}
-use Rattle.script.specs.declared.Left.{Left}
+use Rattle.script.specs.Answers.{Left}
 use Rattle.script.proofs.piece_line.Goals as goal
 
 -- what the piece does at place i is what it does at that place

@@ -7,6 +7,5 @@ pub returns : goal.returns
 unfolding writes
 returns c =
     let e = c.ended.ensures in
-    let p = c in
-    let text = rw (p.number.ensures, p.place.ensures) at p.put_placed-at.ensures in
+    let text = rw (c.number.ensures, c.place.ensures) at c.put_placed-at.ensures in
     record { box_is = e.box_is; text_is = puts_then text e.text_is }

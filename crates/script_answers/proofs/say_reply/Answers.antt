@@ -2,7 +2,7 @@
 use Prim.Native.Nat.{ℕ, ◌-◌, ◌≤◌}
 use mathlib.Core.Path.{◌≡◌, sym, ap, ◌∙◌}
 use mathlib.Core.List.{List}
-use lib.ListN.{take, drop, length, length-append, length-drop, take-append-drop}
+use lib.ListN.{take, drop, length, length-append, length-drop, length-take, take-append-drop}
 use lib.Seq.{take_all, take_at, drop_at}
 use native.Mathlib.Omega.{arith}
 use Rattle.script_text.proofs.Puts.{puts_then}
@@ -28,12 +28,8 @@ pub returns : goal.returns
 unfolding writes replied
 returns c =
     let e = c.ended.ensures in
-    let p = c in
-    let place = p in
-    let number = place in
-    let front_is = number.front_length-n.ensures in
-    let a = number.args in
-    let s = a.area.now in
-    let k = a.len in
-    let text = rw (c.number-number.ensures, c.place.ensures, front k s front_is, rest k s front_is) at p.put_reply-at.ensures in
+    let s = c.args.area.now in
+    let k = c.args.len in
+    let n = c.min-n.ensures ∙ sym (length-take k s) in
+    let text = rw (c.number.ensures, c.place.ensures, front k s n, rest k s n) at c.put_reply-at.ensures in
     record { box_is = e.box_is; text_is = puts_then text e.text_is }

@@ -11,7 +11,7 @@ use Rattle.script_orders.specs.Orders.{ordered}
 use Rattle.script_orders.proofs.answer_order.Goals as goal
 
 -- the order that is matched is the one given
-by_order : (b : DisplayBox) (line : List ℕ) {o o' : BoxOrder} {area area' : List ℕ} {r : Answered} → o ≡ o'
+by_order : (b : DisplayBox) (line : List ℕ) {o o' : BoxOrder} {area area' : List ℕ} {r : Answered DisplayBox} → o ≡ o'
     → Answers (ordered o' b line) r area area' → Answers (ordered o b line) r area area'
 by_order b line {o} {o'} {area} {area'} {r} e h = subst (λ (x : BoxOrder). Answers (ordered x b line) r area area') (sym e) h
 

@@ -12,6 +12,6 @@ unfolding boxed writes
 returns c =
     let r = c.ended in
     let a = c.args in
-    let text = rw c.answer_number.ensures at c.put_number_text-at.ensures in
+    let text = rw c.number.ensures at c.put_number_text-at.ensures in
     let e = ap boxed (c.configure-c.ensures ∙ ap configured (front c.configuration_in-n.ensures)) in
     subst (λ (o : Effect). Answers o r.result a.out.now r.new.out) e (record { box_is = r.ensures.box_is; text_is = puts_then text r.ensures.text_is })

@@ -11,4 +11,4 @@ unfolding configured asked valid
 nothing_asked = refl
 
 pub returns : goal.returns
-returns c = ap (λ (r : Configured). r.made) (c.configure-c.ensures ∙ nothing_asked)
+returns c = ap (λ (r : Configured). r.made) (c.configure.ensures ∙ nothing_asked)

@@ -12,7 +12,7 @@ use Rattle.script_pieces.specs.Parts.{Takes}
 use Rattle.script_pieces.specs.declared.Part.{Part}
 use borrow.Rule.Slice.PartMut.{put_mid}
 use Rattle.script.specs.Answers.{Leaves}
-use Rattle.script.specs.declared.Left.{Left}
+use Rattle.script.specs.Answers.{Left}
 use Rattle.script.specs.Answers.{answered}
 use Rattle.script_run.specs.declared.Progress.{Progress}
 use Rattle.script_run.specs.Lines.{part_done, RunsLine}

@@ -10,5 +10,5 @@ use Rattle.script_run.proofs.start.Goals as goal
 pub returns : goal.returns
 unfolding at_start
 returns c =
-    ap (λ (b : DisplayBox). record { made = b; receivers = replicate 8 c.empty_receiver-r.result }) c.no_panels-made.ensures
-    ∙ ap (λ (r : Receiver). record { made = no_box; receivers = replicate 8 r }) c.empty_receiver-r.ensures
+    ap (λ (b : DisplayBox). record { made = b; receivers = replicate 8 c.empty_receiver.result }) c.no_panels.ensures
+    ∙ ap (λ (r : Receiver). record { made = no_box; receivers = replicate 8 r }) c.empty_receiver.ensures
