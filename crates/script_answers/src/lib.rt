@@ -40,10 +40,23 @@ pub fn say_answer(b: DisplayBox, out: &mut [u8], answer: Answer) -> Answered<Dis
 }
 
 // What went back: so many bytes of the area's front, or all that there are.
-pub fn say_reply(b: DisplayBox, answer: Answer, len: usize, area: &[u8], out: &mut [u8]) -> Answered<DisplayBox>
+pub fn say_reply(
+    b: DisplayBox,
+    answer: Answer,
+    len: usize,
+    area: &[u8],
+    out: &mut [u8],
+) -> Answered<DisplayBox>
     ensures { Answers (writes b (replied answer len area.now)) result out.old out.new }
 {
     let n = len.min(area.len());
-    let at = put_reply(out, 0, answer.number(), answer.place(), &area[..n], &area[n..]);
+    let at = put_reply(
+        out,
+        0,
+        answer.number(),
+        answer.place(),
+        &area[..n],
+        &area[n..],
+    );
     ended(b, out, at)
 }

@@ -26,8 +26,8 @@ pub overflow_sub-p : goal.overflow_sub-p
 overflow_sub-p c =
     (one_of_eight c.args.b.count c.number_at-link.result c.is_there.result c.is_there.ensures c.if-not-is_there.false).0
 
-pub bounds-ps-link : goal.bounds-ps-link
-bounds-ps-link c =
+pub bounds-b-link : goal.bounds-b-link
+bounds-b-link c =
     let (h, l) = one_of_eight c.args.b.count c.number_at-link.result c.is_there.result c.is_there.ensures c.if-not-is_there.false in
     omega (arith, h, l)
 

@@ -1,7 +1,6 @@
 use mathlib.Core.List.{◌∷◌}
 use Prim.Native.Nat.{◌+◌}
 use lib.ListN.{get_or, drop}
-use borrow.Author.Rules.{rules}
 use native.Mathlib.Omega.{arith}
 use Rattle.vmc.specs.Orders.{says_of}
 use Rattle.vmc_tells.specs.Texts.{text_of}
