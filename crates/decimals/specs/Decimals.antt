@@ -22,7 +22,7 @@ in_digits (suc n) v = (0x30 + v / 10 ^ n % 10) ∷ in_digits n v
 unfoldable pub read_digits : List ℕ → Option ℕ
 read_digits p = cond (leb 1 (length p) && leb (length p) 16 && every is_digit p) (Some (decimal p)) None
 
--- a leading zero: `0` alone has None
+-- a leading zero: `0` alone has none
 unfoldable pub leads_zero : List ℕ → Bool
 leads_zero s = not (eqb (length s) 1) && eqb (get_or s 0 0) 0x30
 
