@@ -1,13 +1,14 @@
 -- What is heard of a packet is its first fault, or where it has none what its words say: the ladder of both is the same, and a fault that comes
 -- before the words is no question's.
-use Prim.Native.Nat.{ℕ, ◌≤◌}
-use mathlib.Core.Path.{◌≡◌, refl, subst, ◌∙◌}
+use Prim.Native.Nat.{ℕ, ◌-◌, ◌≤◌}
+use mathlib.Core.Path.{◌≡◌, refl, sym, ap, subst, ◌∙◌}
 use mathlib.Core.Bool.{Bool, true, false, not, cond}
 use mathlib.Core.List.{List}
 use lib.Dec.{ltb}
-use lib.ListN.{length}
+use lib.ListN.{length, take, drop}
 use borrow.Author.Tests.{ltb-false}
 use Rattle.std.specs.Prelude.{Result, Ok, Err}
+use Rattle.laws.proofs.Lists.{rest}
 use Rattle.terms.specs.declared.Answer.TheVariants.{WrongLength, NotForUs, StatusByBroadcast}
 use Rattle.terms.specs.declared.Part.{Part}
 use Rattle.vmc_asks.specs.Asks.{read_data, asks_status}
@@ -47,10 +48,14 @@ module _ (m : List ℕ) where
   unfolding cast_of
   fault_cast f e = (subst (λ r. Told m r (heard_of m)) e (told m)).1
 
-  -- no question is refused, and one is whatever its words say
-  pub sound_cast : (u : Unit {0}) → checked m ≡ Ok u → asks_status (data_of m) ≡ false → cast_of m ≡ in_words (read_data (data_of m))
-  sound_cast u e q = cast_plain m q ∙ sound_heard u e
+  -- the data area, as it is lent on
+  area : (b : Bool) → asks_status (take (length m - 13) (drop 13 m)) ≡ b → asks_status (data_of m) ≡ b
+  area b q = ap asks_status (sym (rest m 13)) ∙ q
 
-  pub question_cast : (u : Unit {0}) → checked m ≡ Ok u → asks_status (data_of m) ≡ true → cast_of m ≡ Err (Refused StatusByBroadcast)
+  -- where it asks for no status the words say what is heard, and a question is refused whatever its words say
+  pub sound_cast : (u : Unit {0}) → checked m ≡ Ok u → asks_status (take (length m - 13) (drop 13 m)) ≡ false → cast_of m ≡ in_words (read_data (data_of m))
+  sound_cast u e q = cast_plain m (area false q) ∙ sound_heard u e
+
+  pub question_cast : (u : Unit {0}) → checked m ≡ Ok u → asks_status (take (length m - 13) (drop 13 m)) ≡ true → cast_of m ≡ Err (Refused StatusByBroadcast)
   unfolding cast_of
-  question_cast u e q = rw (q, sound_heard u e) (status_refused (read_data (data_of m)))
+  question_cast u e q = rw (area true q, sound_heard u e) (status_refused (read_data (data_of m)))

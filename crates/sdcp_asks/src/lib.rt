@@ -74,6 +74,7 @@ fn envelope_of(m: &[u8]) -> Result<(), Part>
 }
 
 // Length, front and envelope, in this order: the first fault, if there is one.
+#[tactic(auto, unfolding(crate::specs::Asks::checked))]
 fn checked(m: &[u8]) -> Result<(), Fault>
     ensures { result ≡ checked m.now }
 {
@@ -96,6 +97,7 @@ fn words_of(m: &[u8]) -> Result<Order, Fault>
 }
 
 // What the packet asks.
+#[tactic(auto, using(crate::proofs::Faults::sound_long, crate::proofs::Faults::sound_heard, crate::proofs::Faults::fault_heard))]
 pub fn hear(m: &[u8]) -> Result<Order, Fault>
     ensures { result ≡ heard_of m.now }
 {
@@ -104,6 +106,7 @@ pub fn hear(m: &[u8]) -> Result<Order, Fault>
 }
 
 // What a packet asks that came by UDP. What it asks for is looked at behind the envelope, so that 8 comes after 12 and before 6.
+#[tactic(auto, using(crate::proofs::Faults::sound_long, crate::proofs::Faults::sound_cast, crate::proofs::Faults::question_cast, crate::proofs::Faults::fault_cast))]
 pub fn hear_cast(m: &[u8]) -> Result<Order, Fault>
     ensures { result ≡ cast_of m.now }
 {
