@@ -3,6 +3,7 @@ use Prim.Native.Nat.{ℕ}
 use mathlib.Core.Path.{◌≡◌, refl, sym, ◌∙◌}
 use mathlib.Core.List.{List}
 use lib.ListN.{length}
+use native.Mathlib.Omega.{arith}
 use Rattle.std.specs.Prelude.{Ok, Err}
 use Rattle.terms.specs.declared.Answer.{Answer}
 use Rattle.panels.specs.declared.DisplayBox.{DisplayBox}
@@ -32,7 +33,7 @@ refused-requires c =
 pub panel_at-p-requires : goal.panel_at-p-requires
 panel_at-p-requires c =
     let a = c.args in
-    place_read a.line c.ids_of-ids.result a.link a.m.now (length a.area.now) _ c.in-Ok.ensures.1 (sym c.in-Ok.ensures.0)
+    omega (arith, place_read a.line c.ids_of-ids.result a.link a.m.now (length a.area.now) _ c.in-Ok.ensures.1 (sym c.in-Ok.ensures.0))
 
 pub returns-in-Err : goal.returns-in-Err
 returns-in-Err c =
