@@ -1,11 +1,11 @@
 -- What a panel is called by says its family; a panel of another family than W has no pair and is not called.
-use Prim.Native.Nat.{ℕ, zero, suc, ◌+◌, ◌-◌, ◌<◌, ◌≤◌}
+use Prim.Native.Nat.{ℕ, zero, suc, ◌-◌}
 use mathlib.Core.Path.{◌≡◌, refl, sym, ap, ◌∙◌}
 use mathlib.Core.Bool.{Bool, true, false, cond, ◌&&◌}
-use mathlib.Core.List.{List, [], ◌∷◌, map}
+use mathlib.Core.List.{List, map}
 use native.Mathlib.Omega.{arith}
 use lib.Dec.{eqb}
-use lib.ListN.{length, get_or, drop, length-map, get_or-map}
+use lib.ListN.{get_or, get_or-map}
 use borrow.Author.Tests.{ne_eqb, eqb-true, le-leb}
 use Rattle.std.specs.Cmp.{nat_eq_equiv}
 use Rattle.terms.specs.declared.GroupId.{GroupId}

@@ -1,10 +1,7 @@
 -- `door_of` asks the room, the family on the link, and who is addressed, in turn.
-use Rattle.std.proofs.Common.{◌≡◌, ℕ, zero, suc, ◌+◌, ◌-◌, ◌<◌, Bool, true, false, cond, List, map, refl, sym, ap, ◌∙◌, rules, arith, Option, Some, None, Err}
+use Rattle.std.proofs.Common.{◌≡◌, ℕ, zero, suc, ◌+◌, ◌-◌, Bool, true, false, cond, List, map, refl, sym, ap, ◌∙◌, rules, arith, Option, Some, None}
 use borrow.Author.Tests.{lt-ltb, le-ltb, ne_eqb}
 use Rattle.std.specs.Option.{ok_or}
-use Rattle.box_rules.specs.declared.Ids.{Ids}
-use Rattle.terms.specs.declared.Answer.TheVariants.{NoSuchPanel}
-use Rattle.laws.proofs.Conditions.{false_true}
 use Rattle.steps.specs.Messages.{Name, on_link}
 use Rattle.steps.specs.Step.{to_nobody}
 use Rattle.addresses.specs.Doors.{id_name, numbered, is_of, target_by, comes_to, opened}

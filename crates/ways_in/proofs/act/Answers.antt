@@ -5,7 +5,6 @@ use mathlib.Core.List.{List}
 use lib.ListN.{length}
 use borrow.Author.Rules.{rules}
 use Rattle.laws.specs.Bytes.{Sent}
-use Rattle.terms.specs.declared.Answer.{Answer}
 use Rattle.terms.specs.declared.Outcome.{Outcome as OutcomeOf}
 use Rattle.turns.specs.Turns.{Turn, taken, turn_with, Takes}
 use Rattle.panels.specs.declared.Panel.{Panel}
