@@ -35,8 +35,8 @@ told m = by_cases (ltb (length m) 13) refl (not (is_ours m)) (envelope_of m)
     by_cases false l false (Ok u) = (ltb-false (length m) 13 l, refl)
 
 module _ (m : List ℕ) where
-  pub sound_long : (u : Unit {0}) → checked m ≡ Ok u → 13 ≤ length m
-  sound_long u e = (subst (λ r. Told m r (heard_of m)) e (told m)).0
+  pub is_long : (u : Unit {0}) → checked m ≡ Ok u → 13 ≤ length m
+  is_long u e = (subst (λ r. Told m r (heard_of m)) e (told m)).0
 
   pub sound_heard : (u : Unit {0}) → checked m ≡ Ok u → heard_of m ≡ in_words (read_data (data_of m))
   sound_heard u e = (subst (λ r. Told m r (heard_of m)) e (told m)).1
@@ -56,6 +56,6 @@ module _ (m : List ℕ) where
   pub sound_cast : (u : Unit {0}) → checked m ≡ Ok u → asks_status (take (length m - 13) (drop 13 m)) ≡ false → cast_of m ≡ in_words (read_data (data_of m))
   sound_cast u e q = cast_plain m (area false q) ∙ sound_heard u e
 
-  pub question_cast : (u : Unit {0}) → checked m ≡ Ok u → asks_status (take (length m - 13) (drop 13 m)) ≡ true → cast_of m ≡ Err (Refused StatusByBroadcast)
+  pub asked_cast : (u : Unit {0}) → checked m ≡ Ok u → asks_status (take (length m - 13) (drop 13 m)) ≡ true → cast_of m ≡ Err (Refused StatusByBroadcast)
   unfolding cast_of
-  question_cast u e q = rw (area true q, sound_heard u e) (status_refused (read_data (data_of m)))
+  asked_cast u e q = rw (area true q, sound_heard u e) (status_refused (read_data (data_of m)))

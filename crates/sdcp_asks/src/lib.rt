@@ -97,7 +97,7 @@ fn words_of(m: &[u8]) -> Result<Order, Fault>
 }
 
 // What the packet asks.
-#[tactic(auto, using(crate::proofs::Faults::sound_long, crate::proofs::Faults::sound_heard, crate::proofs::Faults::fault_heard))]
+#[tactic(auto, using(crate::proofs::Faults::is_long, crate::proofs::Faults::sound_heard, crate::proofs::Faults::fault_heard))]
 pub fn hear(m: &[u8]) -> Result<Order, Fault>
     ensures { result ≡ heard_of m.now }
 {
@@ -106,7 +106,7 @@ pub fn hear(m: &[u8]) -> Result<Order, Fault>
 }
 
 // What a packet asks that came by UDP. What it asks for is looked at behind the envelope, so that 8 comes after 12 and before 6.
-#[tactic(auto, using(crate::proofs::Faults::sound_long, crate::proofs::Faults::sound_cast, crate::proofs::Faults::question_cast, crate::proofs::Faults::fault_cast))]
+#[tactic(auto, using(crate::proofs::Faults::is_long, crate::proofs::Faults::sound_cast, crate::proofs::Faults::asked_cast, crate::proofs::Faults::fault_cast))]
 pub fn hear_cast(m: &[u8]) -> Result<Order, Fault>
     ensures { result ≡ cast_of m.now }
 {
