@@ -1,8 +1,8 @@
 -- The receiver is called until a call hands out nothing: what is still to hand out, with the box and the text so far, gives the whole,
 -- and each call that hands out leaves fewer bytes.
-use Prim.Native.Nat.{ℕ, suc, ◌<◌, ◌≤◌}
+use Prim.Native.Nat.{ℕ, ◌<◌, ◌≤◌}
 use mathlib.Core.Path.{◌≡◌, refl, sym, ap, ◌∙◌}
-use mathlib.Core.Bool.{Bool, true, false, cond}
+use mathlib.Core.Bool.{Bool, true, false, not}
 use mathlib.Core.List.{List, [], ◌∷◌, ◌++◌, map}
 use native.Mathlib.Omega.{arith}
 use lib.Dec.{eqb}
@@ -10,6 +10,7 @@ use lib.ListN.{length, drop, length-drop}
 use borrow.Author.Tests.{ne_eqb}
 use lib.Seq.{drop-drop}
 use Rattle.laws.specs.Bytes.{ascii}
+use Rattle.laws.proofs.Conditions.{false_true}
 use Rattle.panels.specs.declared.DisplayBox.{DisplayBox}
 use Rattle.receiver.specs.declared.Receiver.{Receiver}
 use Rattle.receiver.specs.Calls.{held_in}
@@ -20,22 +21,20 @@ use Rattle.steps.specs.Messages.{Message}
 use Rattle.steps.specs.Run.{run}
 use Rattle.script_text.specs.Puts.{Puts}
 use Rattle.script_text.specs.Texts.{number_text}
-use Rattle.script_text.proofs.Puts.{Underway, under_first, under_next, under_none, puts_as, puts_end, puts_length, puts_then}
+use Rattle.script_text.proofs.Puts.{Underway, under_first, under_next, under_last, puts_as, puts_end, puts_length, puts_then}
+use Rattle.script_answers.specs.Answers.{Effect}
 use Rattle.script_receivers.specs.Receivers.{packet_message, packeted, packets_text, held_text, pieced, Links}
 use Rattle.script_receivers.specs.Calls.{handed_on, called_by, CallsOnce, packets_done}
 use Rattle.script_receivers.specs.declared.Between.{Between}
 use Rattle.script_receivers.specs.declared.Linked.{Linked}
 
--- what is still to hand out: nothing, behind a call that handed out nothing
-unfoldable left : Bool → Receiver → List ℕ → Fed
-left ended r piece = cond ended (record { packets = []; after = r }) (fed r piece)
-
+-- what is still to hand out
 abbrev left_of : Between → List ℕ → Fed
-left_of f piece = left f.ended f.receiver (drop f.taken piece)
+left_of f piece = fed f.receiver (drop f.taken piece)
 
--- how many bytes are still to be read, and one more for the call that hands out nothing
+-- how many bytes are still to be read
 pub to_read : List ℕ → Between → ℕ
-to_read piece f = cond f.ended 0 (suc (length (held_in f.receiver ++ drop f.taken piece)))
+to_read piece f = length (held_in f.receiver ++ drop f.taken piece)
 
 -- what a call hands out, before the rest
 abbrev first : List ℕ → Fed → Fed
@@ -62,32 +61,36 @@ first_after (x ∷ packet) rest = refl
 
 -- ---- one call
 
-module _ {link : ℕ} {area piece e e' : List ℕ} {f g : Between} (going : f.ended ≡ false) (c : CallsOnce link area f piece e g e') where
-  ends : (called_by f piece).packet ≡ [] → g.ended ≡ true
-  ends q = c.ended_is ∙ ap (λ (l : List ℕ). eqb (length l) 0) q
+has_bytes : (packet : List ℕ) (more : Bool) → more ≡ not (eqb (length packet) 0) → more ≡ true → packet ≡ [] → ⊥
+has_bytes packet more e m z = absurd (false_true (sym (ap (λ (l : List ℕ). not (eqb (length l) 0)) z) ∙ sym e ∙ m))
 
-  goes_on_lem : {x : ℕ} {packet : List ℕ} → (called_by f piece).packet ≡ x ∷ packet → g.ended ≡ false
-  goes_on_lem q = c.ended_is ∙ ne_eqb (length (called_by f piece).packet) 0 (λ z. omega (arith, z, ap length q))
+has_none : (packet : List ℕ) (more : Bool) → more ≡ not (eqb (length packet) 0) → more ≡ false → packet ≡ []
+has_none [] more e m = refl
+has_none (x ∷ packet) more e m = absurd (false_true (sym m ∙ e ∙ ap not (ne_eqb (length (x ∷ packet)) 0 (λ z. omega arith))))
 
+first_and_that : (packet : List ℕ) (rest : Fed) → (packet ≡ [] → ⊥) → and_that packet rest ≡ first packet rest
+first_and_that [] rest e = absurd (e refl)
+first_and_that (x ∷ packet) rest e = refl
+
+module _ {link : ℕ} {area piece e e' : List ℕ} {f g : Between} {more : Bool} (c : CallsOnce link area f piece e g e' more) where
   behind : drop (called_by f piece).taken (drop f.taken piece) ≡ drop g.taken piece
   behind = drop-drop (called_by f piece).taken f.taken piece ∙ ap (λ (n : ℕ). drop n piece) (sym c.taken_is)
 
-  left_step : left_of f piece ≡ first (called_by f piece).packet (left_of g piece)
-  unfolding left
-  left_step = go (called_by f piece).packet refl
-    where
-      go : (packet : List ℕ) → (called_by f piece).packet ≡ packet → left_of f piece ≡ first packet (left_of g piece)
-      go [] q = rw (going, ends q, c.receiver_is) (fed_last f.receiver (drop f.taken piece) q)
-      go (x ∷ packet) q =
-          rw (going, goes_on_lem q, c.receiver_is, ← behind, ← q) (fed_more f.receiver (drop f.taken piece) (λ z. omega (arith, ap length z, ap length q)))
+  left_step : more ≡ true → left_of f piece ≡ first (called_by f piece).packet (left_of g piece)
+  left_step m =
+      let n = has_bytes (called_by f piece).packet more c.more_is m in
+      rw (c.receiver_is, ← behind) (fed_more f.receiver (drop f.taken piece) n ∙ first_and_that (called_by f piece).packet _ n)
 
-  pub read_less : to_read piece g < to_read piece f
+  left_last : more ≡ false → left_of f piece ≡ record { packets = []; after = g.receiver }
+  left_last m = rw c.receiver_is (fed_last f.receiver (drop f.taken piece) (has_none (called_by f piece).packet more c.more_is m))
+
+  pub read_less : more ≡ true → to_read piece g < to_read piece f
   unfolding to_read
-  read_less = go (called_by f piece).packet refl
+  read_less m = go (called_by f piece).packet refl
     where
       go : (packet : List ℕ) → (called_by f piece).packet ≡ packet → to_read piece g < to_read piece f
-      go [] q = rw (going, ends q) (omega arith)
-      go (x ∷ packet) q = rw (going, goes_on_lem q, c.receiver_is, ← behind) (omega (arith, leaves f.receiver (drop f.taken piece), packet_le f.receiver (drop f.taken piece), ap length q))
+      go [] q = absurd (has_bytes (called_by f piece).packet more c.more_is m q)
+      go (x ∷ packet) q = rw (c.receiver_is, ← behind) (omega (arith, leaves f.receiver (drop f.taken piece), packet_le f.receiver (drop f.taken piece), ap length q))
 
 -- ---- all calls
 
@@ -99,8 +102,7 @@ pub record Goes (link : ℕ) (area : List ℕ) (b : DisplayBox) (r : Receiver) (
   text_left : Underway (packets_text link area b (fed r piece).packets) (packets_text link area f.made (left_of f piece).packets) d 0 e f.len
 
 module _ (link : ℕ) (area : List ℕ) (b : DisplayBox) (r : Receiver) (piece d : List ℕ) where
-  pub goes_first : Goes link area b r piece d (record { made = b; receiver = r; taken = 0; len = 0; ended = false }) d
-  unfolding left
+  pub goes_first : Goes link area b r piece d (record { made = b; receiver = r; taken = 0; len = 0 }) d
   goes_first = record {
     taken_in = omega arith;
     box_left = refl;
@@ -108,10 +110,10 @@ module _ (link : ℕ) (area : List ℕ) (b : DisplayBox) (r : Receiver) (piece d
     text_left = under_first (packets_text link area b (fed r piece).packets) d 0;
   }
 
-  pub goes_further : {f g : Between} {e e' : List ℕ} → f.ended ≡ false → Goes link area b r piece d f e → CallsOnce link area f piece e g e' → Goes link area b r piece d g e'
-  goes_further {f} {g} {e} {e'} going s c =
+  pub goes_further : {f g : Between} {e e' : List ℕ} {more : Bool} → more ≡ true → Goes link area b r piece d f e → CallsOnce link area f piece e g e' more → Goes link area b r piece d g e'
+  goes_further {f} {g} {e} {e'} m s c =
       let packet = (called_by f piece).packet in
-      let step = left_step going c in
+      let step = left_step c m in
       let taken = takes_in f.receiver (drop f.taken piece) in
       let l = length-drop f.taken piece in
       let i = s.taken_in in
@@ -136,14 +138,17 @@ module _ (link : ℕ) (area : List ℕ) (b : DisplayBox) (r : Receiver) (piece d
       let l = goes_length s in
       omega (arith, h, l)
 
-  pub goes_done : {f : Between} {e : List ℕ} → f.ended ≡ true → Goes link area b r piece d f e → Links (packets_done link area b r piece) (record { after = f.made; receiver = f.receiver; len = f.len }) d e
-  unfolding packets_done packets_text left
-  goes_done {f} {e} ended s =
-      let none : left_of f piece ≡ record { packets = []; after = f.receiver } = rw ended in
+  -- the last call hands out nothing
+  pub goes_done : {f g : Between} {e e' : List ℕ} {more : Bool} → more ≡ false → Goes link area b r piece d f e → CallsOnce link area f piece e g e' more
+      → Links (packets_done link area b r piece) (record { after = g.made; receiver = g.receiver; len = g.len }) d e'
+  unfolding packets_done packets_text handed_on
+  goes_done {f} {g} {e} {e'} {more} m s c =
+      let none = left_last c m in
+      let q = ap (handed_on link area f.made) (has_none (called_by f piece).packet more c.more_is m) in
       record {
-        box_is = sym (s.box_left ∙ ap (λ (x : Fed). run f.made (messages link area x)) none);
+        box_is = c.box_is ∙ ap (λ (o : Effect). o.box) q ∙ sym (s.box_left ∙ ap (λ (x : Fed). run f.made (messages link area x)) none);
         receiver_is = sym (s.receiver_left ∙ ap (λ (x : Fed). x.after) none);
-        text_is = under_none s.text_left (ap (λ (x : Fed). packets_text link area f.made x.packets) none);
+        text_is = under_last s.text_left (puts_as (ap (λ (o : Effect). o.text) q ∙ sym (ap (λ (x : Fed). packets_text link area f.made x.packets) none)) c.text_is);
       }
 
   -- and then `held`

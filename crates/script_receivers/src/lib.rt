@@ -25,19 +25,23 @@ pub struct Linked {
     pub len: usize,
 }
 
-// Between two calls of the receiver: the box, the receiver, how much of the piece is taken and how much text is put, and whether a
-// call has handed out nothing.
+// Between two calls of the receiver: the box, the receiver, how much of the piece is taken and how much text is put.
 #[derive(Clone, Copy)]
 struct Between {
     made: DisplayBox,
     receiver: Receiver,
     taken: usize,
     len: usize,
-    ended: bool,
 }
 
 // A packet: its bytes, and the line of what the box does with it.
-fn say_packet(b: DisplayBox, link: usize, room: usize, packet: &[u8], out: &mut [u8]) -> Answered<DisplayBox>
+fn say_packet(
+    b: DisplayBox,
+    link: usize,
+    room: usize,
+    packet: &[u8],
+    out: &mut [u8],
+) -> Answered<DisplayBox>
     requires { room ≤ 1024 }
     ensures { Answers (packeted link (filler room) b packet.now) result out.old out.new }
 {
@@ -45,44 +49,29 @@ fn say_packet(b: DisplayBox, link: usize, room: usize, packet: &[u8], out: &mut 
     let e = put(out, a, b"\n");
     let mut area = [FILLER; 1024];
     let t = carry(Line::Tcp, b, link, packet, &mut area[..room], &mut out[e..]);
-    let after = t.after;
     Answered {
-        after,
         len: e + t.len,
+        ..t
     }
 }
 
-// One call of the receiver, with what is left of the piece.
-fn call_once(f: Between, link: usize, room: usize, piece: &[u8], out: &mut [u8]) -> Between
-    requires { (room ≤ 1024) × (f.taken ≤ length piece.now) × (f.len ≤ length out.old) }
-    ensures { CallsOnce link (filler room) f piece.now out.old result out.new }
-{
-    let mut packet = [0u8; 512];
-    let from = f.taken;
-    let made = f.made;
-    let len = f.len;
-    let r = f.receiver;
-    let g = take_piece(r, &piece[from..], &mut packet);
-    let n = g.len;
-    let receiver = g.after;
-    let taken = from + g.taken;
-    if n == 0 {
-        return Between {
-            made,
-            receiver,
-            taken,
-            len,
-            ended: true,
+impl Between {
+    // One call of the receiver, with what is left of the piece, and whether it handed out a packet.
+    fn call(&mut self, link: usize, room: usize, piece: &[u8], out: &mut [u8]) -> bool
+        requires { (room ≤ 1024) × (self.old.taken ≤ length piece.now) × (self.old.len ≤ length out.old) }
+        ensures { CallsOnce link (filler room) self.old piece.now out.old self.new out.new result }
+    {
+        let mut packet = [0u8; 512];
+        let g = take_piece(self.receiver, &piece[self.taken..], &mut packet);
+        self.receiver = g.after;
+        self.taken += g.taken;
+        let Some(n) = g.len else {
+            return false;
         };
-    }
-    let a = say_packet(made, link, room, &packet[..n], &mut out[len..]);
-    let after = a.after;
-    Between {
-        made: after,
-        receiver,
-        taken,
-        len: len + a.len,
-        ended: false,
+        let a = say_packet(self.made, link, room, &packet[..n], &mut out[self.len..]);
+        self.made = a.after;
+        self.len += a.len;
+        true
     }
 }
 
@@ -103,16 +92,11 @@ fn feed(
         receiver: r,
         taken: 0,
         len: 0,
-        ended: false,
     };
-    while !f.ended {
-        f = call_once(f, link, room, piece, out);
-    }
-    let after = f.made;
-    let receiver = f.receiver;
+    while f.call(link, room, piece, out) {}
     Linked {
-        after,
-        receiver,
+        after: f.made,
+        receiver: f.receiver,
         len: f.len,
     }
 }
@@ -130,16 +114,9 @@ fn link_piece(
     ensures { Links (pieced link (filler room) b r piece.now) result out.old out.new }
 {
     let f = feed(b, r, link, room, piece, out);
-    let after = f.after;
-    let receiver = f.receiver;
-    let held = receiver.held as u32;
-    let at = put_number_text(out, f.len, b"held ", held);
+    let at = put_number_text(out, f.len, b"held ", f.receiver.held as u32);
     let len = put(out, at, b"\n");
-    Linked {
-        after,
-        receiver,
-        len,
-    }
+    Linked { len, ..f }
 }
 
 pub fn answer_piece(b: DisplayBox, r: Receiver, line: &[u8], out: &mut [u8]) -> Linked

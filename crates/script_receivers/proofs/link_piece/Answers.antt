@@ -4,8 +4,8 @@ use Rattle.script_answers.specs.Answers.{filler}
 use Rattle.script_receivers.proofs.Feeding.{holds_few, held_said}
 use Rattle.script_receivers.proofs.link_piece.Goals as goal
 
-pub overflow_cast-held : goal.overflow_cast-held
-overflow_cast-held c =
+pub overflow_cast-f : goal.overflow_cast-f
+overflow_cast-f c =
     let a = c.args in
     let h = holds_few a.link (filler a.room) a.b a.r a.piece.now a.out.now c.feed-f.ensures in
     omega (arith, h)
