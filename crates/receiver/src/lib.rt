@@ -8,9 +8,7 @@ ghost use Rattle.receiver.specs.Calls.{holding, given, handed, Receives};
 ghost use Rattle.receiver.specs.Both.{both};
 
 use octets::{lay, number2};
-
-// Version, category and community, with which a packet begins.
-const FRONT: [u8; 6] = *b"\x03\x0BSONY";
+use sdcp_asks::FRONT;
 
 // "a receiver for each TCP link": its record, which the caller owns and lends
 #[repr(C)]

@@ -11,6 +11,9 @@ use octets::number2;
 use terms::{Answer, Part};
 use vmc_asks::{Order, asks_status, read_data};
 
+// Version, category and community, with which a packet begins.
+pub const FRONT: [u8; 6] = *b"\x03\x0BSONY";
+
 // Why a packet orders nothing, whoever is addressed.
 #[derive(Clone, Copy)]
 pub enum Fault {
@@ -48,7 +51,7 @@ impl From<Fault> for Answer {
 pub fn is_ours(m: &[u8]) -> bool
     ensures { result ≡ is_ours m.now }
 {
-    m.starts_with(b"\x03\x0BSONY")
+    m.starts_with(&FRONT)
 }
 
 // Request, item and data length, in this order.
