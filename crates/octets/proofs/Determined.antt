@@ -6,12 +6,9 @@ use Prim.Native.Nat.{ℕ, ◌≤◌}
 use lib.Count.{ones}
 use lib.Dec.{eqb}
 use lib.ListN.{get_or}
-use Rattle.laws.specs.Bytes.{same, begins, laid}
+use Rattle.laws.specs.Bytes.{laid}
 use Rattle.laws.specs.Lists.{every, listed, within}
 use Rattle.laws.specs.Numbers.{number, in_bytes}
-
-pub same_bytes_one : (a b : List ℕ) (r r' : Bool) → r ≡ same a b → r' ≡ same a b → r ≡ r'
-same_bytes_one a b r r' p q = p ∙ sym q
 
 pub all_are_one : (s : List ℕ) (b : ℕ) (r r' : Bool) → r ≡ every (eqb b) s → r' ≡ every (eqb b) s → r ≡ r'
 all_are_one s b r r' p q = p ∙ sym q
@@ -25,24 +22,11 @@ are_within_one l m r r' p q = p ∙ sym q
 pub number2_one : (a b r r' : ℕ) → r ≡ number (a ∷ b ∷ []) → r' ≡ number (a ∷ b ∷ []) → r ≡ r'
 number2_one a b r r' p q = p ∙ sym q
 
-pub number4_one : (a b c d r r' : ℕ) → r ≡ number (a ∷ b ∷ c ∷ d ∷ []) → r' ≡ number (a ∷ b ∷ c ∷ d ∷ []) → r ≡ r'
-number4_one a b c d r r' p q = p ∙ sym q
-
--- at every width
-bytes_one : (n v : ℕ) (r r' : List ℕ) → r ≡ in_bytes n v → r' ≡ in_bytes n v → r ≡ r'
-bytes_one n v r r' p q = p ∙ sym q
-
 pub bytes2_one : (v : ℕ) (r r' : List ℕ) → r ≡ in_bytes 2 v → r' ≡ in_bytes 2 v → r ≡ r'
-bytes2_one = bytes_one 2
-
-pub bytes4_one : (v : ℕ) (r r' : List ℕ) → r ≡ in_bytes 4 v → r' ≡ in_bytes 4 v → r ≡ r'
-bytes4_one = bytes_one 4
+bytes2_one v r r' p q = p ∙ sym q
 
 pub byte_at_one : (s : List ℕ) (i r r' : ℕ) → r ≡ get_or s i 0 → r' ≡ get_or s i 0 → r ≡ r'
 byte_at_one s i r r' p q = p ∙ sym q
-
-pub begins_with_one : (s front : List ℕ) (r r' : Bool) → r ≡ begins front s → r' ≡ begins front s → r ≡ r'
-begins_with_one s front r r' p q = p ∙ sym q
 
 pub lay_one : (d s : List ℕ) (n : ℕ) (x x' : List ℕ) → x ≡ laid d n s → x' ≡ laid d n s → x ≡ x'
 lay_one d s n x x' p q = p ∙ sym q

@@ -1,19 +1,12 @@
-// Leaves that many crates use: a byte read at any place, bytes laid over an area, areas compared, numbers listed and bounded, and
-// numbers high byte first.
+// Leaves that many crates use: a byte read at any place, bytes laid over an area, bytes and numbers asked, and numbers high byte first.
+// Each is a method of the library with a promise in the words of the documents.
 #![tactic(auto)]
 
 ghost use Rattle.std.specs.Prelude.{◌≡◌, [], ◌∷◌, ◌≤◌, eqb, get_or};
 ghost use Rattle.std.specs.Int.Count.{ones};
-ghost use Rattle.laws.specs.Bytes.{same, begins, laid};
+ghost use Rattle.laws.specs.Bytes.{laid};
 ghost use Rattle.laws.specs.Lists.{every, listed, within};
 ghost use Rattle.laws.specs.Numbers.{number, in_bytes};
-
-// Whether two areas hold the same bytes.
-pub fn same_bytes(a: &[u8], b: &[u8]) -> bool
-    ensures { result ≡ same a.now b.now }
-{
-    a == b
-}
 
 // Whether every byte is b.
 pub fn all_are(s: &[u8], b: u8) -> bool
@@ -29,23 +22,9 @@ pub fn number2(high: u8, low: u8) -> u16
     u16::from_be_bytes([high, low])
 }
 
-// The number that four bytes write, high byte first.
-pub fn number4(a: u8, b: u8, c: u8, d: u8) -> u32
-    ensures { result ≡ number (a ∷ b ∷ c ∷ d ∷ []) }
-{
-    u32::from_be_bytes([a, b, c, d])
-}
-
 // The two bytes that write a number.
 pub fn bytes2(v: u16) -> [u8; 2]
     ensures { result ≡ in_bytes 2 v }
-{
-    v.to_be_bytes()
-}
-
-// The four bytes that write a number.
-pub fn bytes4(v: u32) -> [u8; 4]
-    ensures { result ≡ in_bytes 4 v }
 {
     v.to_be_bytes()
 }
@@ -67,7 +46,7 @@ pub fn are_within(numbers: &[u8], bounds: &[u8]) -> bool
     }
     let mut ok = true;
     for i in 0..numbers.len() {
-        ok = ok & (numbers[i] <= bounds[i]);
+        ok &= numbers[i] <= bounds[i];
     }
     ok
 }
@@ -77,13 +56,6 @@ pub fn byte_at(s: &[u8], i: usize) -> u8
     ensures { result ≡ get_or s.now i 0 }
 {
     s.get(i).copied().unwrap_or(0)
-}
-
-// Whether an area begins with the bytes given.
-pub fn begins_with(s: &[u8], front: &[u8]) -> bool
-    ensures { result ≡ begins front.now s.now }
-{
-    s.starts_with(front)
 }
 
 // Lays bytes over an area from a place on; an area too short for them is left as it is.

@@ -23,7 +23,8 @@ pub const REMOTE: usize = 6;
 // The flip's place in the record, behind those that have a name each; the first flip word's number is the same.
 pub const FLIP: usize = 18;
 
-// Each place's greatest value, in the order of the record.
+// Each place's greatest value, in the order of the record. The two columns stand apart, for each is used whole: this one bounds a
+// record, and the next is a new one.
 const MOST: [u8; 19] = [
     MOST_LEVEL, // PHASE
     MOST_LEVEL, // CHROMA
