@@ -16,12 +16,6 @@ use Rattle.receiver.specs.Stream.{agrees, can_begin}
 
 -- ---- as far as both go: the shorter begins the longer
 
-pub agrees_begins : (l m : List ℕ) → length l ≤ length m → begins l m ≡ agrees l m
-unfolding agrees
-agrees_begins [] m h = refl
-agrees_begins (x ∷ l) [] h = absurd (omega arith)
-agrees_begins (x ∷ l) (y ∷ m) h = ap (λ (b : Bool). eqb x y && b) (agrees_begins l m (omega arith))
-
 eqb_sym : (x y : ℕ) → eqb x y ≡ eqb y x
 eqb_sym x y = go (eqb x y) refl
   where

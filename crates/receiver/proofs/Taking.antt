@@ -21,9 +21,9 @@ pub too_few : (s : List ℕ) → length s < 13 → 0 ≡ whole s
 unfolding whole
 too_few s h = rw (lt-ltb _ _ h)
 
-pub too_long : (s : List ℕ) (k : ℕ) → 13 ≤ length s → k ≡ size s → length s < k → 0 ≡ whole s
+pub too_long_lem : (s : List ℕ) (k : ℕ) → 13 ≤ length s → k ≡ size s → length s < k → 0 ≡ whole s
 unfolding whole
-too_long s k h e lt = rw (le-ltb _ _ h, ← e, lt-ltb _ _ lt)
+too_long_lem s k h e lt = rw (le-ltb _ _ h, ← e, lt-ltb _ _ lt)
 
 long_enough : (s : List ℕ) (k : ℕ) → 13 ≤ length s → k ≡ size s → k ≤ length s → k ≡ whole s
 unfolding whole
