@@ -50,7 +50,10 @@ fn piece_line(s: Held, line: &[u8], out: &mut [u8]) -> Answered<Held>
     let a = answer_piece(s.made, receivers[i], line, out);
     receivers[i] = a.receiver;
     Answered {
-        after: Held { made: a.after, receivers },
+        after: Held {
+            made: a.after,
+            receivers,
+        },
         len: a.len,
     }
 }

@@ -1,5 +1,5 @@
 -- `answer_line` does what the order of the line does.
-use mathlib.Core.Path.{◌≡◌, sym, subst, ◌∙◌}
+use mathlib.Core.Path.{◌≡◌, sym, subst}
 use Prim.Native.Nat.{ℕ}
 use mathlib.Core.List.{List}
 use Rattle.script_lines.specs.Orders.{order_of}
