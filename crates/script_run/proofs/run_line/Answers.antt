@@ -62,8 +62,8 @@ slice_bounds-answer_line-end c = inside c.take_part-part.ensures c.requires.0
 pub slice_bounds-answer_line-end-2 : goal.slice_bounds-answer_line-end-2
 slice_bounds-answer_line-end-2 c = sym (length-take-le _ _ (inside c.take_part-part.ensures c.requires.0))
 
-pub overflow_add-full : goal.overflow_add-full
-overflow_add-full c =
+pub overflow_add-result : goal.overflow_add-result
+overflow_add-result c =
     let h = puts_end (puts_behind c.args.area.now c.args.p.len c.requires.1 c.answer_line-a.ensures.text_is) c.requires.1 in
     omega (arith, h)
 
