@@ -14,7 +14,12 @@ use script_messages::{answer_message, answer_udp};
 use script_panels::{answer_box, answer_show};
 
 // The order of a line: what it does to the box, and its text at the front of an area.
-pub fn answer_order(order: BoxOrder, b: DisplayBox, line: &[u8], out: &mut [u8]) -> Answered<DisplayBox>
+pub fn answer_order(
+    order: BoxOrder,
+    b: DisplayBox,
+    line: &[u8],
+    out: &mut [u8],
+) -> Answered<DisplayBox>
     ensures { Answers (ordered order b line.now) result out.old out.new }
 {
     match order {
