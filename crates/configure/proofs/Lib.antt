@@ -1,3 +1,4 @@
 pub mod Determined
 pub mod Boxes
 pub mod Examples
+pub mod Long

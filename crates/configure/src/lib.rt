@@ -1,15 +1,13 @@
 // A configuration: three bytes a panel in, a box at its start values out (document 01, "The box and its messages" and "Start values").
 #![tactic(auto)]
 
-ghost use Rattle.std.specs.Prelude.{◌≡◌, ◌<◌};
-ghost use Rattle.laws.specs.Lists.{places};
+ghost use Rattle.std.specs.Prelude.{◌≡◌, ◌≤◌, length};
 ghost use Rattle.panels.specs.Records.{start_w, start_k};
-ghost use Rattle.configure.specs.Configure.{asked_at, asked, fresh_panel, refusal, configured};
+ghost use Rattle.configure.specs.Configure.{asked, fresh_panel, refusal, configured};
 
 use box_rules::is_valid;
 use panels::{Balance, DisplayBox, Inputs, KRecord, Panel, WRecord, zero_panel};
 use settings::start_values;
-use std::array;
 use terms::{Answer, GroupId, UnitId};
 
 // What a configuration gives: its answer, and the box. A refusal gives a box too, that of no panels, as `configured` says.
@@ -66,34 +64,18 @@ fn fresh_panel(family: u8, group: u8, unit: u8) -> Panel
     }
 }
 
-// The panel that the three bytes of place i ask for, and no panel behind the last of them.
-#[tactic(auto, unfolding(crate::specs::Configure::asked_at))]
-fn asked_at(c: &[u8], i: usize) -> Panel
-    requires { i < 8 }
-    ensures { result ≡ asked_at c.now i }
-{
-    if c.len() / 3 <= i {
-        return zero_panel();
-    }
-    fresh_panel(c[i * 3], c[i * 3 + 1], c[i * 3 + 2])
-}
-
-// What the eight places of the box hold.
-fn places_asked(c: &[u8]) -> [Panel; 8]
-    ensures { result ≡ places 8 0 (asked_at c.now) }
-{
-    array::from_fn(|i| asked_at(c, i))
-}
-
-// The box that three bytes a panel ask for. Nine panels and more have no place, and their count breaks a rule.
-#[tactic(auto, unfolding(crate::specs::Configure::asked))]
+// The box that three bytes a panel ask for. The places are filled where they stand: a box that is made of an array needs the stack for
+// both, and a host lends no more than the header says.
 fn asked_box(c: &[u8]) -> DisplayBox
+    requires { length c.now ≤ 24 }
     ensures { result ≡ asked c.now }
 {
-    DisplayBox {
-        count: c.len() / 3,
-        panels: places_asked(c),
+    let n = c.len() / 3;
+    let mut panels = [zero_panel(); 8];
+    for i in 0..n {
+        panels[i] = fresh_panel(c[i * 3], c[i * 3 + 1], c[i * 3 + 2]);
     }
+    DisplayBox { count: n, panels }
 }
 
 fn refused() -> Configured
@@ -108,17 +90,24 @@ fn refused() -> Configured
     }
 }
 
-// A new box: three bytes a panel, its family (57h or 4Bh), its group and its unit.
-#[tactic(auto, unfolding(crate::specs::Configure::configured))]
+// A new box: three bytes a panel, its family (57h or 4Bh), its group and its unit. More bytes than eight panels have are refused before
+// they are counted: so few are divided as a byte is (tests/division).
+#[tactic(auto, using(crate::proofs::Long::long_refused))]
 pub fn configure(c: &[u8]) -> Configured
     ensures { result ≡ configured c.now }
 {
-    let made = asked_box(c);
-    if c.len() % 3 != 0 || !is_valid(made) {
+    if 24 < c.len() {
+        return refused();
+    }
+    if c.len() % 3 != 0 {
+        return refused();
+    }
+    let b = asked_box(c);
+    if !is_valid(b) {
         return refused();
     }
     Configured {
         answer: Answer::Done,
-        made,
+        made: b,
     }
 }

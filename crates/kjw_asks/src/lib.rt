@@ -39,7 +39,6 @@ pub fn letters_of(m: &[u8]) -> [u8; 4]
 }
 
 // The state that four letters name.
-
 fn state_named(letters: [u8; 4]) -> Option<State>
     ensures { result ≡ state_named letters }
 {

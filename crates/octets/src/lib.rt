@@ -1,5 +1,5 @@
 // Leaves that many crates use: a byte read at any place, bytes laid over an area, bytes and numbers asked, and numbers high byte first.
-// Each is a method of the library with a promise in the words of the documents.
+// Most are a method of the library with a promise in the words of the documents.
 #![tactic(auto)]
 
 ghost use Rattle.std.specs.Prelude.{◌≡◌, [], ◌∷◌, ◌≤◌, eqb, get_or};
@@ -58,7 +58,8 @@ pub fn byte_at(s: &[u8], i: usize) -> u8
     s.get(i).copied().unwrap_or(0)
 }
 
-// Lays bytes over an area from a place on; an area too short for them is left as it is.
+// Lays bytes over an area from a place on; an area too short for them is left as it is. A loop, and not the library's copy: of its host
+// the archive for C asks memcpy and memset, and no memmove.
 pub fn lay(out: &mut [u8], at: usize, bytes: &[u8])
     ensures { out.new ≡ laid out.old at bytes.now }
 {
@@ -68,7 +69,9 @@ pub fn lay(out: &mut [u8], at: usize, bytes: &[u8])
     if out.len() - bytes.len() < at {
         return;
     }
-    out[at..at + bytes.len()].copy_from_slice(bytes);
+    for i in 0..bytes.len() {
+        out[at + i] = bytes[i];
+    }
 }
 
 // The number of ones in a byte.

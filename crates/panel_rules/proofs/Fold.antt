@@ -1,6 +1,6 @@
 -- A flag kept by a fold says `every`: it stays raised over the elements seen where each of them is good, and the rest decides.
-use mathlib.Core.Path.{◌≡◌, refl, sym, ◌∙◌}
-use mathlib.Core.Bool.{Bool, true, false, ◌&&◌, and-true}
+use mathlib.Core.Path.{◌≡◌, refl}
+use mathlib.Core.Bool.{Bool, true, false, ◌&&◌}
 use mathlib.Core.List.{List, [], ◌∷◌}
 use Rattle.std.specs.List.{fold}
 use Rattle.laws.specs.Lists.{every}

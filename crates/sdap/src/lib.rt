@@ -31,7 +31,8 @@ pub struct Read {
     pub fields: Advert,
 }
 
-// The same fields with the texts lent, as a caller hands them to the writer and as they lie in the bytes that the reader is given.
+// The same fields with the texts lent, as a caller hands them to the writer and as they lie in the bytes that the reader is given. Here a
+// text can be of any length, so that the writer can refuse one that is not of its 12 or 24 bytes.
 #[derive(Clone, Copy)]
 pub struct Fields<'a> {
     pub category: u8,

@@ -90,7 +90,7 @@ fn advert(f: &Fields) -> Advert
     }
 }
 
-// Every field zero. Written out, since an ID has no default.
+// Every field zero. Written out: of a derived default it is known only that each field, and each byte of a text, is one.
 fn no_fields() -> Advert
     ensures { result ≡ no_fields }
 {

@@ -15,6 +15,13 @@ number_one a r r' p q = p ∙ sym q
 pub place_one : (a : Answer) (r r' : ℕ) → r ≡ answer_place a → r' ≡ answer_place a → r ≡ r'
 place_one a r r' p q = p ∙ sym q
 
+-- the same two under the names of what they tell
+pub answer_number_one : (a : Answer) (r r' : ℕ) → r ≡ number_of a → r' ≡ number_of a → r ≡ r'
+answer_number_one = number_one
+
+pub answer_place_one : (a : Answer) (r r' : ℕ) → r ≡ answer_place a → r' ≡ answer_place a → r ≡ r'
+answer_place_one = place_one
+
 -- two IDs of a kind are equal in one way
 pub same_group_one : (a b : GroupId) (r r' : Bool) → r ≡ eqb a.0 b.0 → r' ≡ eqb a.0 b.0 → r ≡ r'
 same_group_one a b r r' p q = p ∙ sym q

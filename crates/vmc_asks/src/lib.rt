@@ -4,7 +4,8 @@
 ghost use Rattle.std.specs.Prelude.{◌≡◌, ◌≤◌};
 ghost use Rattle.settings.specs.Table.{most_shift};
 ghost use Rattle.setting_words.specs.Names.{chosen_by};
-ghost use Rattle.vmc_asks.specs.Asks.{level_of, signed, shift_by, shift_order, value_order, read_set, read_get, read_words, read_data, is_question, asks_status};
+ghost use Rattle.vmc_asks.specs.Asks.{level_of, signed, shift_by, shift_order, value_order};
+ghost use Rattle.vmc_asks.specs.Asks.{read_set, read_get, read_words, read_data, is_question, asks_status};
 
 use decimals::plain_number;
 use setting_texts::lead;

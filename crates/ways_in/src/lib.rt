@@ -37,7 +37,7 @@ pub struct Outcome {
     pub done: bool,
 }
 
-// The answer is 0. It is asked which answer it is, and not for its number: so nothing stands between a record and the outcome that it goes into.
+// The answer is 0.
 fn is_done(a: Answer) -> bool
     ensures { result ≡ eqb (number_of a) 0 }
 {
