@@ -70,19 +70,19 @@ def said(title, places):
             print('     ', p)
 
 
+def together(pairs):
+    """The places of each key."""
+    out = {}
+    for key, place in pairs:
+        out.setdefault(key, []).append(place)
+    return out
+
+
 every = list(functions())
-bodies = {}
-for place, name, parameters, body in every:
-    s = shape(body)
-    if len(s) > 60:
-        bodies.setdefault(s, []).append(f'{place}: {name}')
+bodies = together((shape(body), f'{place}: {name}') for place, name, _, body in every if len(shape(body)) > 60)
 alike = [' = '.join(v) for v in bodies.values() if len(v) > 1]
-travelling = {}
-for place, name, parameters, body in every:
-    plain = [re.sub(r'\bmut ', '', p) for p in parameters if 'self' not in p]
-    for i in range(len(plain)):
-        for j in range(i + 1, len(plain)):
-            travelling.setdefault((plain[i], plain[j]), []).append(f'{place}: {name}')
+plain = [(f'{place}: {name}', [re.sub(r'\bmut ', '', p) for p in parameters if 'self' not in p]) for place, name, parameters, _ in every]
+travelling = together(((p, q), place) for place, names in plain for i, p in enumerate(names) for q in names[i + 1:])
 
 print('point 1')
 said('enums of its own', found(r'^(pub )?enum '))
