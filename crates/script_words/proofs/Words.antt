@@ -12,7 +12,7 @@ use Rattle.std.proofs.lemmas.Option.{unwrap_or-slice_get}
 use Rattle.std.specs.List.{filter, onto_first, slice_get, slice_split}
 use Rattle.std.specs.Option.{option_map, unwrap_or}
 use Rattle.std.specs.Prelude.{Option, Some, None}
-use Rattle.laws.proofs.Lists.{behind}
+use Rattle.laws.proofs.Lists.{behind, from}
 use Rattle.script_words.specs.Words.{before, to_first, words_in}
 
 -- ---- what stands before the first c
@@ -90,6 +90,16 @@ words_count (x ∷ s) = go (eqb x 0x20) (words_count s)
     go : (b : Bool) → suc (length (filter (λ (b : ℕ). eqb b 0x20) s)) ≡ length (words_in s) → suc (length (cond b (x ∷ filter (λ (b : ℕ). eqb b 0x20) s) (filter (λ (b : ℕ). eqb b 0x20) s))) ≡ length (cond b ([] ∷ words_in s) (to_first x (words_in s)))
     go true e = ap suc e
     go false e = joined x (words_in s) _ e
+
+-- the spaces of a line, counted place by place
+abbrev pub spaces : List ℕ → ℕ
+spaces s = length (filter (λ (b : ℕ). eqb b 0x20) s)
+
+pub spaces_here : (s : List ℕ) (i : ℕ) → i < length s → get_or s i 0 ≡ 0x20 → spaces (drop i s) ≡ suc (spaces (drop (i + 1) s))
+spaces_here s i h e = ap spaces (from s i 0 h) ∙ rw e
+
+pub spaces_other : (s : List ℕ) (i : ℕ) → i < length s → (get_or s i 0 ≡ 0x20 → ⊥) → spaces (drop i s) ≡ spaces (drop (i + 1) s)
+spaces_other s i h n = ap spaces (from s i 0 h) ∙ rw (ne_eqb (get_or s i 0) 0x20 n)
 
 -- the word that was picked, or none
 pub word_picked : (r : Option (Bor (List ℕ))) (none : Bor (List ℕ)) (s : List ℕ) (k : ℕ) → option_map (λ (w : Bor (List ℕ)). w.now) r ≡ slice_get (slice_split (λ (b : ℕ). eqb b 0x20) s) k → none.now ≡ [] → (unwrap_or r none).now ≡ get_or (words_in s) k []
