@@ -7,7 +7,7 @@ ghost use Rattle.terms.specs.Answers.{number_of};
 ghost use Rattle.steps.specs.Messages as messages;
 ghost use Rattle.steps.specs.Step.{with_w, with_panels, panel_at, turn};
 ghost use Rattle.vmc.specs.Orders.{carried};
-ghost use Rattle.box_rules.specs.Pairs.{ids_in};
+ghost use Rattle.box_rules.specs.Pairs.{ids_in, judged};
 ghost use Rattle.ways_in.specs.Promise.{Steps, message_of, outcome_of, came_by};
 ghost use Rattle.ways_in.specs.Turns.{Acts, resting, heeded};
 
@@ -58,12 +58,13 @@ fn refused(b: DisplayBox, answer: Answer) -> Outcome
     }
 }
 
-// What the panels of the box are called by; those of a box that breaks the rules by nothing.
+// What the panels of a box are called by, of what the judging gave; those of a box that breaks the rules by nothing. The box itself is not
+// handed on: it would be copied once more for each message.
 #[tactic(auto, unfolding(box_rules::specs::Pairs::ids_in))]
-fn ids_of(b: DisplayBox) -> [Ids; 8]
-    ensures { result ≡ ids_in b }
+fn ids_of(found: Option<[Ids; 8]>) -> [Ids; 8]
+    ensures { (b : DisplayBox) → found ≡ judged b → result ≡ ids_in b }
 {
-    judge(b).unwrap_or(NO_IDS)
+    found.unwrap_or(NO_IDS)
 }
 
 // The panel at place i: here a panel is copied out of a box.
@@ -122,7 +123,7 @@ fn act(line: Line, p: Panel, m: &[u8], area: &mut [u8]) -> terms::Outcome<Panel>
 fn take_linked(b: DisplayBox, line: Line, link: usize, m: &[u8], area: &mut [u8]) -> Outcome
     ensures { Steps b (message_of line link m.now area.old) result area.new }
 {
-    let ids = ids_of(b);
+    let ids = ids_of(judge(b));
     match door_of(line, ids, link, m, area.len()) {
         Err(answer) => refused(b, answer),
         Ok(i) => {
@@ -168,7 +169,7 @@ fn obey_all(m: &[u8], o: Order, ps: [Panel; 8], n: usize) -> [Panel; 8]
 fn take_udp(b: DisplayBox, m: &[u8]) -> Outcome
     ensures { Steps b (messages.udp m.now) result [] }
 {
-    let ids = ids_of(b);
+    let ids = ids_of(judge(b));
     if !any_called(m, ids) {
         return refused(b, to_nobody(m));
     }

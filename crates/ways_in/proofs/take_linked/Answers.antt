@@ -40,13 +40,13 @@ returns-in-Err c =
     let a = c.args in
     let ids = c.ids_of-ids in
     shut a.line a.b a.link a.m.now a.area.now _ _
-    (read a.line a.b a.link a.m.now a.area.now ids.result _ ids.ensures (sym c.in-Err.ensures.0)) c.refused.ensures
+    (read a.line a.b a.link a.m.now a.area.now ids.result _ (ids.ensures a.b c.judge.ensures) (sym c.in-Err.ensures.0)) c.refused.ensures
 
 pub returns-in-Ok : goal.returns-in-Ok
 returns-in-Ok c =
     let a = c.args in
     let ids = c.ids_of-ids in
-    let at = read a.line a.b a.link a.m.now a.area.now ids.result _ ids.ensures (sym c.in-Ok.ensures.0) in
+    let at = read a.line a.b a.link a.m.now a.area.now ids.result _ (ids.ensures a.b c.judge.ensures) (sym c.in-Ok.ensures.0) in
     acted a.line a.b a.link a.m.now a.area.now _ c.panel_at-p.result c.act-t.result _ _
     (opens_to a.line a.b a.link a.m.now a.area.now _ at)
     c.panel_at-p.ensures c.act-t.ensures c.with_panel-after.ensures refl refl c.is_done.ensures

@@ -67,7 +67,7 @@ returns-then-not-any_called c =
     let ids = c.ids_of-ids in
     let q = c.any_called in
     let n : any_called a.m.now (names a.b) ≡ false =
-    sym (called_read a.b a.m.now ids.result ids.ensures) ∙ sym q.ensures ∙ c.if-not-any_called.true in
+    sym (called_read a.b a.m.now ids.result (ids.ensures a.b c.judge.ensures)) ∙ sym q.ensures ∙ c.if-not-any_called.true in
     refuses a.b (udp a.m.now) [] (to_nobody a.m.now) _ (uncalled a.b a.m.now n) (c.refused.ensures ∙ rw c.to_nobody.ensures) refl
 
 pub refused-requires-in-Err : goal.refused-requires-in-Err
@@ -79,14 +79,14 @@ obey_all-panels-requires c =
     let a = c.args in
     let ids = c.ids_of-ids in
     let q = c.any_called in
-    valid_count a.b (called_valid a.b a.m.now (some a.b a.m.now ids.result q.result ids.ensures q.ensures c.if-not-any_called.false))
+    valid_count a.b (called_valid a.b a.m.now (some a.b a.m.now ids.result q.result (ids.ensures a.b c.judge.ensures) q.ensures c.if-not-any_called.false))
 
 pub returns-in-Err : goal.returns-in-Err
 returns-in-Err c =
     let a = c.args in
     let ids = c.ids_of-ids in
     let q = c.any_called in
-    let n = some a.b a.m.now ids.result q.result ids.ensures q.ensures c.if-not-any_called.false in
+    let n = some a.b a.m.now ids.result q.result (ids.ensures a.b c.judge.ensures) q.ensures c.if-not-any_called.false in
     rests a.b a.m.now _ _ (idle a.b a.m.now c.in-Err.fault n (sym c.in-Err.ensures)) (c.refused-in-Err.ensures ∙ ap (resting a.b) c.from.ensures)
 
 pub returns-in-Ok : goal.returns-in-Ok
@@ -94,6 +94,6 @@ returns-in-Ok c =
     let a = c.args in
     let ids = c.ids_of-ids in
     let q = c.any_called in
-    let n = some a.b a.m.now ids.result q.result ids.ensures q.ensures c.if-not-any_called.false in
+    let n = some a.b a.m.now ids.result q.result (ids.ensures a.b c.judge.ensures) q.ensures c.if-not-any_called.false in
     let stepped = obeyed a.b a.m.now c.in-Ok.o (called_valid a.b a.m.now n) n (sym c.in-Ok.ensures) in
     steps a.b (udp a.m.now) _ [] _ stepped (ap (λ (ps : List Panel). with_panels a.b ps) c.obey_all-panels.ensures) refl refl refl refl
