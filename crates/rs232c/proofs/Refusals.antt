@@ -20,7 +20,7 @@ use Rattle.turns.proofs.Turns.{refusal_leaves as leaves}
 use Rattle.panels.specs.Records.{connectors, presets}
 use Rattle.panels.specs.declared.WRecord.{WRecord}
 use Rattle.rs232c_asks.specs.Commands.{connector_marked, preset_marked, connector_of, preset_of, act_of, connector_good, preset_good, config_good, select_good}
-use Rattle.rs232c_asks.specs.Asks.{count_of, destination_of, source_of, first, second, is_foreign, config_command, select_command, command_of, Heard, broken, heard_of, values_of}
+use Rattle.rs232c_asks.specs.Asks.{count_of, destination_of, source_of, first, second, is_foreign, config_command, select_command, command_of, ordered, Heard, from_source, not_understood, broken, heard_of, values_of}
 use Rattle.rs232c_tells.specs.Texts.{bytes_of}
 use Rattle.rs232c.specs.Replies.{replied, turned, turn_of}
 use Rattle.rs232c_asks.specs.declared.Order.{Order}
@@ -80,10 +80,17 @@ pub high_source_foreign : (m : List ℕ) → 0x7f < source_of m → is_foreign m
 unfolding is_foreign
 high_source_foreign m h = rw (lt-ltb 0x7f (source_of m) h) (or-true (not (eqb (get_or m 0 0) 2) || not (eqb (destination_of m) 1) || ltb (source_of m) 0x41))
 
+-- Where there is no order the answer is 6, and that goes to the source.
+abbrev pub Six : ℕ → Option Order → Type 0
+Six source o = (o ≡ None) × (from_source source (ordered o) ≡ not_understood source)
+
+six : (source : ℕ) {o : Option Order} → o ≡ None → Six source o
+six source e = (e, rw e)
+
 -- "any other code [..]: 6"
-pub other_code : (code : ℕ) (bytes : List ℕ) → listed (0x21 ∷ 0x22 ∷ 0x40 ∷ 0x61 ∷ 0x6e ∷ []) code ≡ false → command_of code bytes ≡ None
+pub other_code : (source code : ℕ) (bytes : List ℕ) → listed (0x21 ∷ 0x22 ∷ 0x40 ∷ 0x61 ∷ 0x6e ∷ []) code ≡ false → Six source (command_of code bytes)
 unfolding command_of
-other_code code bytes = rungs (eqb code 0x21) (eqb code 0x22) (eqb code 0x40) (eqb code 0x61) (eqb code 0x6e) _ _ _ _ _ None
+other_code source code bytes n = six source (rungs (eqb code 0x21) (eqb code 0x22) (eqb code 0x40) (eqb code 0x61) (eqb code 0x6e) _ _ _ _ _ None n)
   where
     rungs : (a b c d e : Bool) (p q r s t u : Option Order) → (a || (b || (c || (d || (e || false))))) ≡ false → cond a p (cond b q (cond c r (cond d s (cond e t u)))) ≡ u
     rungs true b c d e p q r s t u n = absurd (false_true (sym n))
@@ -94,22 +101,25 @@ other_code code bytes = rungs (eqb code 0x21) (eqb code 0x22) (eqb code 0x40) (e
     rungs false false false false false p q r s t u n = refl
 
 -- "A marked code not listed: 6."
-pub connector_unlisted : (bytes : List ℕ) → connector_marked (first bytes) ≡ true → listed connectors (connector_of (second bytes)) ≡ false → config_command bytes ≡ None
+pub connector_unlisted : (source : ℕ) (bytes : List ℕ) → connector_marked (first bytes) ≡ true → listed connectors (connector_of (second bytes)) ≡ false
+    → Six source (config_command bytes)
 unfolding config_command config_good connector_good
-connector_unlisted bytes m u = rw (m, u, and-false (eqb (length bytes) 2))
+connector_unlisted source bytes m u = six source (rw (m, u, and-false (eqb (length bytes) 2)))
 
-pub preset_unlisted : (bytes : List ℕ) → preset_marked (first bytes) ≡ true → listed presets (preset_of (second bytes)) ≡ false → config_command bytes ≡ None
+pub preset_unlisted : (source : ℕ) (bytes : List ℕ) → preset_marked (first bytes) ≡ true → listed presets (preset_of (second bytes)) ≡ false
+    → Six source (config_command bytes)
 unfolding config_command config_good preset_good
-preset_unlisted bytes m u = rw (m, u, and-false (connector_good (first bytes) (second bytes)), and-false (eqb (length bytes) 2))
+preset_unlisted source bytes m u = six source (rw (m, u, and-false (connector_good (first bytes) (second bytes)), and-false (eqb (length bytes) 2)))
 
 -- "Act 0, or an unlisted connector with act 1 or 2: 6."
-pub act_zero : (bytes : List ℕ) → act_of (first bytes) ≡ 0 → select_command bytes ≡ None
+pub act_zero : (source : ℕ) (bytes : List ℕ) → act_of (first bytes) ≡ 0 → Six source (select_command bytes)
 unfolding select_command select_good
-act_zero bytes a = rw (a, and-false (eqb (length bytes) 1))
+act_zero source bytes a = six source (rw (a, and-false (eqb (length bytes) 1)))
 
-pub unlisted_not_selected : (bytes : List ℕ) → (act_of (first bytes) ≡ 3 → ⊥) → listed connectors (connector_of (first bytes)) ≡ false → select_command bytes ≡ None
+pub unlisted_not_selected : (source : ℕ) (bytes : List ℕ) → (act_of (first bytes) ≡ 3 → ⊥) → listed connectors (connector_of (first bytes)) ≡ false
+    → Six source (select_command bytes)
 unfolding select_command select_good
-unlisted_not_selected bytes a u = rw (ne_eqb (act_of (first bytes)) 3 a, u, either_way (eqb (act_of (first bytes)) 0) false, and-false (eqb (length bytes) 1))
+unlisted_not_selected source bytes a u = six source (rw (ne_eqb (act_of (first bytes)) 3 a, u, either_way (eqb (act_of (first bytes)) 0) false, and-false (eqb (length bytes) 1)))
   where
     either_way : (b : Bool) (x : Bool) → cond b x x ≡ x
     either_way true x = refl
