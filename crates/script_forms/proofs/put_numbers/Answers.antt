@@ -1,13 +1,10 @@
 use mathlib.Core.List.{[], ◌∷◌}
-use mathlib.Core.Path.{◌∙◌, ap}
-use Prim.Native.Nat.{◌+◌, ℕ}
-use Rattle.std.specs.Prelude.{Option}
-use Rattle.std.specs.Option.{unwrap_or}
+use Prim.Native.Nat.{◌+◌}
 use lib.ListN.{drop, get_or}
 use Rattle.decimals.specs.Plain.{plain}
 use Rattle.script_forms.specs.Forms.{numbers_text}
 use Rattle.script_text.proofs.Puts.{under_first, under_next, under_none}
-use Rattle.script_forms.proofs.Forms.{form_behind, form_byte, form_mark, next_number}
+use Rattle.script_forms.proofs.Forms.{form_behind, form_byte, form_mark}
 use Rattle.script_forms.proofs.put_numbers.Goals as goal
 use Rattle.script_forms.proofs.put_numbers.Goals.{then-x-eq35, else-x-eq35}
 
@@ -20,9 +17,8 @@ loop-x-preserved c =
     let i = c.loop-x.x-index in
     elim c.if-x-eq35.branch [
       | then-x-eq35 w ↦
-          let (value, rest) = next_number c.loop-x.left w.next.new.self w.next.result w.next.ensures.steps in
-          let v = w.unwrap_or.ensures ∙ ap (λ (o : Option ℕ). unwrap_or o 0) w.copied.ensures ∙ value in
-          rw (w.out-is, w.to-is, w.left-is) (under_next (plain w.unwrap_or.result) (numbers_text (drop (i + 1) form) w.next.new.self.rest.now) c.loop-x.invariant (form_mark form i _ _ _ c.loop-x-test.true w.if-x-eq35.true v rest) w.put_number-to.ensures)
+          let number = w.next_number in
+          rw (w.out-is, w.to-is, w.left-is) (under_next (plain number.result) (numbers_text (drop (i + 1) form) number.new.left.rest.now) c.loop-x.invariant (form_mark form i _ _ _ c.loop-x-test.true w.if-x-eq35.true number.ensures.value number.ensures.rest) w.put_number-to.ensures)
       | else-x-eq35 w ↦
           rw (w.out-is, w.to-is, w.left-is) (under_next (get_or form i 0 ∷ []) (numbers_text (drop (i + 1) form) c.loop-x.left.rest.now) c.loop-x.invariant (form_byte form i _ c.loop-x-test.true w.if-x-eq35.false) w.put-to.ensures)
     ]
